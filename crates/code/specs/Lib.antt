@@ -1,0 +1,5 @@
+pub mod Faults
+pub mod Spans
+pub mod Transform
+pub mod Orders
+pub mod Encode
