@@ -1,8 +1,13 @@
 pub mod Encodings
+pub mod KindPatterns
+pub mod LawfulSpans
 pub mod Laying
+pub mod Looks
 pub mod Lowest
 pub mod Marks
 pub mod Rows
 pub mod Sames
+pub mod SpanLaw
 pub mod SpanTests
 pub mod Transforms
+pub mod Written

@@ -3,3 +3,4 @@ pub mod Spans
 pub mod Transform
 pub mod Orders
 pub mod Encode
+pub mod Looks

@@ -13,4 +13,5 @@ sub-result c = omega (arith, power-most (c .args .n) (c .args .length) (sym (c .
 
 pub returns-then-start-length-eq0 : need.returns-then-start-length-eq0
 returns-then-start-length-eq0 c =
-    ap (λ size. leb (c .args .start) (size - c .args .length)) (c .two-to .ensures) ∙ span-last (c .args .n) (c .args .start) (c .args .length) (c .if-not-power-up-to .ensures tt) (c .if-start-length-eq0 .taken)
+    ap (λ size. leb (c .args .start) (size - c .args .length)) (c .two-to .ensures)
+    ∙ span-last (c .args .n) (c .args .start) (c .args .length) (c .if-not-power-up-to .ensures tt) (c .if-start-length-eq0 .taken)
