@@ -17,7 +17,7 @@ use Rattle.code.specs.declared.faults.MapFault.{MapFault}
 use Rattle.code.specs.declared.faults.MapFault.the-variants.{Exponent, Length, Rank, Law}
 use Rattle.code.specs.Spans.{goodExponent, lowestNo}
 use Rattle.code.specs.Orders.{ranksOf, exchangeKeeps, exchangesKeep, settingKeeps, keepsLaw, freshRank, ranksFault, orderFault}
-use Rattle.code.proofs.Lowest.{lowest-none}
+use Rattle.code.proofs.Lowest.{none-fails}
 use Rattle.code.proofs.SpanLaw.{SpanLaw}
 use Rattle.code.proofs.Written.{length-ranksOf}
 
@@ -67,7 +67,7 @@ accepted-from n bytes none =
       low = leb-true 1 n (good .0);
       high = leb-true n 10 (good .1);
       long = length-ranksOf bytes (2 ^ n) (bytes-long n bytes none);
-      law = λ p within. lowest-none (keepsLaw n (ranksOf bytes)) (2 ^ n) 0 (kept n (ranksOf bytes) (size .1)) p (omega arith) (omega arith);
+      law = λ p within. none-fails (keepsLaw n (ranksOf bytes)) 0 (2 ^ n) (kept n (ranksOf bytes) (size .1)) p (omega arith) (omega arith);
     }
 
 -- what an order holds for as long as it exists

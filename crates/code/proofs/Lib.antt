@@ -1,10 +1,14 @@
+pub mod Accepted
 pub mod Encodings
+pub mod Fresh
 pub mod KindPatterns
 pub mod LawfulSpans
 pub mod Laying
 pub mod Looks
 pub mod Lowest
 pub mod Marks
+pub mod Moves
+pub mod Questions
 pub mod Rows
 pub mod Sames
 pub mod SpanLaw

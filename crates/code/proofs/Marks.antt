@@ -17,7 +17,7 @@ use Rattle.std.proofs.shelf.Tests.{eq-eqb, ne-eqb, eqb-true, eqb-false, true≢
 use Rattle.code.specs.declared.faults.MapFault.{MapFault}
 use Rattle.code.specs.declared.faults.MapFault.the-variants.{Exponent, Length, Bit, Outside}
 use Rattle.code.specs.Spans.{goodExponent, lowestNo, isBit, listedFault, markOf, markAnswer, Means}
-use Rattle.code.proofs.Lowest.{lowest-none}
+use Rattle.code.proofs.Lowest.{none-fails}
 
 abbrev pub bits-of : List ℕ → Option ℕ
 bits-of bytes = lowestNo (λ p. isBit (getD bytes p 0)) 0 (length bytes)
@@ -43,7 +43,7 @@ none-from (Some x) f e = absurd (true≢false e)
 pub bits-below-two : (bytes : List ℕ) → bits-of bytes ≡ None → (i : ℕ) → getD bytes i 0 ≤ 1
 bits-below-two bytes none i =
     ⊎-elim
-    (λ h. leb-true (getD bytes i 0) 1 (lowest-none (λ p. isBit (getD bytes p 0)) (length bytes) 0 none i (omega arith) (omega arith)))
+    (λ h. leb-true (getD bytes i 0) 1 (none-fails (λ p. isBit (getD bytes p 0)) 0 (length bytes) none i (omega arith) (omega arith)))
     (λ h. let past : getD bytes i 0 ≡ 0 = getD-past bytes i 0 h in omega arith)
     (cases-lt i (length bytes))
 

@@ -8,8 +8,10 @@ use lib.ListN.{length, getD, take}
 use lib.Dec.{eqb, leb, ltb}
 use Rattle.std.specs.declared.option.Option.{Option}
 use Rattle.std.specs.declared.option.Option.the-variants.{Some, None}
+use Rattle.std.specs.declared.result.Result.{Result}
+use Rattle.std.specs.declared.result.Result.the-variants.{Ok, Err}
 use Rattle.code.specs.declared.faults.MapFault.{MapFault}
-use Rattle.code.specs.declared.faults.MapFault.the-variants.{Exponent, Length, Rank, Law, Count}
+use Rattle.code.specs.declared.faults.MapFault.the-variants.{Exponent, Length, Rank, Law, Count, Outside}
 use Rattle.code.specs.Spans.{goodExponent, lowestNo, part, kindOf}
 
 -- ranks as they are written: two bytes each, the high byte first
@@ -51,6 +53,19 @@ keepsLaw n ranks p = settingKeeps ranks p && exchangesKeep ranks p (n - 1)
 abbrev pub Law-as-tested : Type 0
 Law-as-tested = (n : ℕ) (ranks : List ℕ) (p : ℕ) → 1 ≤ n → p < 2 ^ n →
     ((keepsLaw n ranks p ≡ true) → Keeps-law n ranks p) × (Keeps-law n ranks p → keepsLaw n ranks p ≡ true)
+
+-- what it is to be an order of 2 ^ n positions: n from 1 to 10, a rank below 2 ^ n for each, no rank twice, and every position keeps the law
+pub record Lawful (n : ℕ) (ranks : List ℕ) : Type 0 where
+  pub low : 1 ≤ n
+  pub high : n ≤ 10
+  pub long : length ranks ≡ 2 ^ n
+  pub below : (p : ℕ) → p < 2 ^ n → getD ranks p 0 < 2 ^ n
+  pub different : (p q : ℕ) → p < 2 ^ n → q < 2 ^ n → getD ranks p 0 ≡ getD ranks q 0 → p ≡ q
+  pub law : (p : ℕ) → p < 2 ^ n → Keeps-law n ranks p
+
+-- what an order answers of a position
+abbrev pub rankAnswer : List ℕ → ℕ → Result ℕ MapFault
+rankAnswer ranks p = cond (ltb p (length ranks)) (Ok (getD ranks p 0)) (Err Outside)
 
 -- is a number among some others
 abbrev pub among : ℕ → List ℕ → Bool
