@@ -1,0 +1,2 @@
+// The receiver's layer: for now its refusals alone.
+pub mod faults;
