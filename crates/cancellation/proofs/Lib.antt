@@ -1,0 +1,15 @@
+pub mod Combined
+pub mod Cancels
+pub mod Turned
+pub mod Reversed
+pub mod Agree
+pub mod Written
+pub mod Sought
+pub mod Folded
+pub mod Powers
+pub mod Settles
+pub mod Cheap
+pub mod Balance
+pub mod Messages
+pub mod Grown
+pub mod Descent
