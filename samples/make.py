@@ -1,0 +1,170 @@
+#!/usr/bin/env python3
+"""Makes every sample again: the sessions and the shelf from nothing, what they print from tools/outside.
+
+    python3 samples/make.py [--into FOLDER]
+
+The expected lines come from the outside implementation in tools/, not from the program. Standard library only.
+"""
+import argparse
+import hashlib
+import os
+import sys
+from math import isqrt
+
+HERE = os.path.dirname(os.path.realpath(__file__))
+sys.path.insert(0, os.path.join(HERE, "..", "tools"))
+from outside import answers
+
+LETTERS = "SOKLE"          # the letters that this release knows
+
+
+# Orders
+
+def moves(p, n):
+    """The positions one move away from p: bit 0 set, or a 1 at bit b exchanged with a 0 at bit b + 1."""
+    if p % 2 == 0:
+        yield p + 1
+    for b in range(n - 1):
+        if p >> b & 3 == 1:
+            yield p + (1 << b)
+
+
+def is_lawful(ranks):
+    n = len(ranks).bit_length() - 1
+    return sorted(ranks) == list(range(1 << n)) and all(ranks[q] < ranks[p] for p in range(1 << n) for q in moves(p, n))
+
+
+def order_by_weight(n):
+    """The ranks by weight, the heaviest position first. The weight of a position is the sum of 2^(b/4) over its bits b that are 1."""
+    scale = 400                                                      # weights are whole numbers of 2^-100, each term rounded down
+    term = [isqrt(isqrt(1 << b + scale)) for b in range(n)]          # 2^(b/4) * 2^100, less than 1 too small
+    weight = [sum(term[b] for b in range(n) if p >> b & 1) for p in range(1 << n)]
+    falling = sorted(range(1 << n), key=lambda p: (-weight[p], -p))
+    # Each weight is less than n too small, so a gap of n or more shows that the true weights are ordered alike and that none are equal.
+    assert all(weight[p] - weight[q] >= n for p, q in zip(falling, falling[1:]))
+    ranks = [0] * (1 << n)
+    for rank, p in enumerate(falling):
+        ranks[p] = rank
+    return ranks
+
+
+ORDER_OF_8 = [7, 6, 5, 3, 4, 2, 1, 0]
+ORDER_OF_1024 = order_by_weight(10)
+NOT_LAWFUL = [7, 5, 6, 3, 4, 2, 1, 0]        # a move leads from position 1, of rank 5, to position 2, of rank 6
+assert is_lawful(ORDER_OF_8) and is_lawful(ORDER_OF_1024) and not is_lawful(NOT_LAWFUL)
+
+
+# Commands
+
+def two_bytes(number):
+    return number.to_bytes(2, "big")
+
+
+def bits(text):
+    """One byte for each character 0 or 1."""
+    return bytes(int(c) for c in text)
+
+
+def exponent(count):
+    return bytes([count.bit_length() - 1])
+
+
+def record(ranks):
+    """n and the ranks: the operands of `O`, and a record of the shelf."""
+    return exponent(len(ranks)) + b"".join(two_bytes(rank) for rank in ranks)
+
+
+def S(slot):
+    return b"S" + bytes([slot])
+
+
+def O(ranks):
+    return b"O" + record(ranks)
+
+
+def K(k):
+    return b"K" + two_bytes(k)
+
+
+def L(marks):
+    return b"L" + exponent(len(marks)) + marks
+
+
+def E(message):
+    return b"E" + message
+
+
+# The message of 512 bits: the SHA-512 of the text `polar`, the highest bit of each byte first.
+MESSAGE = bits("".join("{:08b}".format(byte) for byte in hashlib.sha512(b"polar").digest()))
+
+
+# The samples
+
+LISTED = b"wl" + L(bits("00010111")) + E(bits("1011")) + E(bits("0110")) + L(bits("11111111")) + E(bits("10100101"))
+
+RANKED = b"wr" + O(ORDER_OF_1024) + K(512) + E(MESSAGE)
+
+# Slots 0 and 1 are lawful, slot 2 is not; the file ends within the record of slot 3.
+SHELF = record(ORDER_OF_8) + record(ORDER_OF_1024) + record(NOT_LAWFUL) + record(ORDER_OF_8)[:9]
+SHELVED = b"wr" + S(0) + K(4) + E(bits("1011")) + S(1) + E(bits("0110")) + K(512) + E(MESSAGE) + S(2) + S(3) + K(0) + E(b"")
+
+REFUSALS = b"wr" + b"".join([
+    K(1),                            # 17: there is no order yet
+    S(0),                            # 18: there is no such slot
+    O([1, 1]),                       # 3: position 1 repeats a rank
+    O([3, 2, 1, 4]),                 # 3: the rank of position 3 is not below 4
+    O(NOT_LAWFUL),                   # 4: position 1 does not keep the law
+    O(ORDER_OF_8),
+    K(9),                            # 5: there are only 8 positions
+    K(4),
+    E(bits("1021")),                 # 6: byte 2 of the message
+    O([1, 1]),                       # 3 again; order and map stay in force
+    E(bits("1011")),
+    b"O" + bytes([11]),              # 1: n is above 10, which ends the session
+    K(4),                            # not read
+])
+REFUSED_LISTED = b"wl" + b"".join([
+    L(bits("0012")),                 # 6: the mark of position 3
+    L(bits("0011")),
+    E(bits("12")),                   # 6: byte 1 of the message
+    E(bits("11")),
+    b"L" + bytes([0]),               # 1: n is 0, which ends the session
+])
+REFUSED_HEADER = b"xr" + O(ORDER_OF_8)               # 15: the first byte is neither `w` nor `e`
+REFUSED_LETTER = b"wl" + L(bits("01")) + b"K\0\1"    # 15: `K` belongs to ranked sessions
+REFUSED_CUT = b"wr" + O(ORDER_OF_8) + K(4) + E(bits("101"))    # 16: the message lacks a byte
+REFUSED_NO_MAP = b"wr" + O(ORDER_OF_8) + E(bits("1011"))       # 17: an order, but no map
+
+SAMPLES = [               # name, session, shelf (None: there is no file)
+    ("listed", LISTED, None),
+    ("ranked", RANKED, None),
+    ("shelf/shelf", SHELVED, SHELF),
+    ("refusals", REFUSALS, None),
+    ("refused-listed", REFUSED_LISTED, None),
+    ("refused-header", REFUSED_HEADER, None),
+    ("refused-letter", REFUSED_LETTER, None),
+    ("refused-cut", REFUSED_CUT, None),
+    ("refused-no-map", REFUSED_NO_MAP, None),
+]
+
+
+def main():
+    parser = argparse.ArgumentParser()
+    parser.add_argument("--into", default=HERE)
+    into = parser.parse_args().into
+
+    def write(name, data):
+        path = os.path.join(into, name)
+        os.makedirs(os.path.dirname(path), exist_ok=True)
+        with open(path, "wb") as file:
+            file.write(data)
+
+    for name, session, shelf in SAMPLES:
+        write(name + ".session", session)
+        write(name + ".expected", answers(session, shelf, LETTERS))
+        if shelf is not None:
+            write(os.path.join(os.path.dirname(name), "orders.shelf"), shelf)
+
+
+if __name__ == "__main__":
+    main()
