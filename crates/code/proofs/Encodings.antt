@@ -11,7 +11,7 @@ use Rattle.std.specs.declared.result.Result.the-variants.{Ok, Err}
 use Rattle.std.proofs.shelf.Tests.{eq-eqb, ne-eqb, false≢true}
 use Rattle.code.specs.declared.faults.MapFault.{MapFault}
 use Rattle.code.specs.declared.faults.MapFault.the-variants.{Bit, Buffer}
-use Rattle.code.specs.Encode.{informedCount, laid, informed, encoded, encodeFault}
+use Rattle.code.specs.Encode.{informedCount, laid, informed, encoded, encodeFault, messageFault}
 use Rattle.code.specs.Faults.{answerTo, inForce}
 use Rattle.code.specs.Transform.{transform}
 use Rattle.code.proofs.Laying.{length-laid, informed-laid}
@@ -42,3 +42,16 @@ read-back n marks message word long fits is =
     ap (λ w. informed marks (transform n w)) is
     ∙ ap (informed marks) (undoes-itself n (laid marks message) (length-laid marks message ∙ long))
     ∙ informed-laid marks message fits
+
+module _ (marks : List ℕ) (word message : ℕ) where
+  pub message-wrong : (message ≡ informedCount marks → ⊥) → messageFault marks word message ≡ Some Buffer
+  unfolding messageFault
+  message-wrong other = rw (ne-eqb message (informedCount marks) other)
+
+  pub word-wrong : message ≡ informedCount marks → (word ≡ length marks → ⊥) → messageFault marks word message ≡ Some Buffer
+  unfolding messageFault
+  word-wrong fits other = rw (eq-eqb message (informedCount marks) fits, ne-eqb word (length marks) other)
+
+  pub both-right : message ≡ informedCount marks → word ≡ length marks → messageFault marks word message ≡ None
+  unfolding messageFault
+  both-right fits large = rw (eq-eqb message (informedCount marks) fits, eq-eqb word (length marks) large)

@@ -62,3 +62,18 @@ informed-laid (m ∷ marks) message h = go (eqb m 1) message h (λ rest k. infor
     go true [] h later = let x : ⊥ = omega arith in absurd x
     go true (b ∷ message) h later = ap (λ r. b ∷ r) (later message (let k : length message ≡ informedCount marks = omega arith in k))
     go false message h later = later message h
+
+-- gathering from p on, where the next bit of the message goes to k
+module _ (marks bits : List ℕ) (p : ℕ) (within : p < length marks) (long : length bits ≡ length marks) where
+  pub informed-here : getD marks p 0 ≡ 1 → informed (drop p marks) (drop p bits) ≡ getD bits p 0 ∷ informed (drop (p + 1) marks) (drop (p + 1) bits)
+  informed-here one =
+      let zeroth : getD (drop p bits) 0 0 ≡ getD bits p 0 = getD-drop p bits 0 0 ∙ ap (λ j. getD bits j 0) (let h : p + 0 ≡ p = omega arith in h) in
+      at-drop-more (λ m. informed m (drop p bits)) marks p 0 within
+      ∙ ap (λ b. cond b (getD (drop p bits) 0 0 ∷ informed (drop (p + 1) marks) (drop 1 (drop p bits))) (informed (drop (p + 1) marks) (drop 1 (drop p bits)))) (eq-eqb (getD marks p 0) 1 one)
+      ∙ ap₂ (λ b r. b ∷ informed (drop (p + 1) marks) r) zeroth (drop-drop 1 p bits)
+
+  pub informed-not : (getD marks p 0 ≡ 1 → ⊥) → informed (drop p marks) (drop p bits) ≡ informed (drop (p + 1) marks) (drop (p + 1) bits)
+  informed-not other =
+      at-drop-more (λ m. informed m (drop p bits)) marks p 0 within
+      ∙ ap (λ b. cond b (getD (drop p bits) 0 0 ∷ informed (drop (p + 1) marks) (drop 1 (drop p bits))) (informed (drop (p + 1) marks) (drop 1 (drop p bits)))) (ne-eqb (getD marks p 0) 1 other)
+      ∙ ap (informed (drop (p + 1) marks)) (drop-drop 1 p bits)

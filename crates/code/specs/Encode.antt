@@ -2,7 +2,7 @@
 use Prim.Native.Nat.{ℕ, zero, suc, _+_, _^_}
 use mathlib.Core.Path.{_≡_}
 use mathlib.Core.List.{List, [], _∷_, _++_}
-use mathlib.Core.Bool.{Bool, true, false, cond, not}
+use mathlib.Core.Bool.{Bool, true, false, cond, not, _&&_}
 use lib.ListN.{length, getD, take, drop}
 use lib.Dec.{eqb, leb}
 use Rattle.std.specs.Options.{mapped}
@@ -38,3 +38,7 @@ encodeFault marks message room =
     cond (not (eqb (length message) (informedCount marks))) (Some Buffer)
     (cond (not (eqb room (length marks))) (Some Buffer)
     (mapped Bit (lowestNo (λ i. isBit (getD message i 0)) 0 (length message))))
+
+-- the question about a word and a message of these lengths: does each have the right one
+unfoldable pub messageFault : List ℕ → ℕ → ℕ → Option MapFault
+messageFault marks word message = cond (eqb message (informedCount marks) && eqb word (length marks)) None (Some Buffer)

@@ -4,7 +4,7 @@ ghost use Prim.Native.Nat.{_^_};
 ghost use lib.Dec.{eqb};
 ghost use lib.ListN.{length, getD};
 ghost use Rattle.std.specs.declared.result.Result.the-variants.{Ok};
-ghost use Rattle.code.specs.Encode.{informedCount, laid, informed, encoded, encodeFault};
+ghost use Rattle.code.specs.Encode.{informedCount, laid, informed, encoded, encodeFault, messageFault};
 ghost use Rattle.code.specs.Faults.{answerTo, inForce};
 ghost use Rattle.code.specs.Transform.{transform};
 use crate::bits::lowest_non_bit;
@@ -72,6 +72,39 @@ pub fn encode<M: Map>(map: &M, message: &[u8], word: &mut [u8]) -> Result<(), Ma
         return Err(MapFault::Bit(at));
     }
     lay(map, message, word);
+    transform_row(word, n);
+    Ok(())
+}
+
+// Takes the entries at the informed positions, in rising order.
+fn gather<M: Map>(map: &M, bits: &[u8], message: &mut [u8])
+    requires { ⌜ length (now bits) ≡ length (marks (now map)) ⌝ ∗ ⌜ length (now message) ≡ informedCount (marks (now map)) ⌝ }
+    ensures { λ _. ⌜ now (message .exit) ≡ informed (marks (now (map .entry))) (now (bits .entry)) ⌝ }
+{
+    let mut next = 0;
+    for p in 0..bits.len() {
+        if is_informed(map, p) {
+            message[next] = bits[p];
+            next += 1;
+        }
+    }
+}
+
+// Writes the message of a word, the transform of the word at the informed positions, or refuses and leaves the output as it was. The word is as it was.
+pub fn message_of<M: Map>(map: &M, word: &mut [u8], message: &mut [u8]) -> Result<(), MapFault>
+    ensures answer { λ r. ⌜ r ≡ answerTo (messageFault (marks (now (map .entry))) (length (now (word .entry))) (length (now (message .entry)))) ⌝ }
+    ensures message { λ _. ⌜ now (message .exit) ≡ inForce (messageFault (marks (now (map .entry))) (length (now (word .entry))) (length (now (message .entry)))) (informed (marks (now (map .entry))) (transform (exponent (now (map .entry))) (now (word .entry)))) (now (message .entry)) ⌝ }
+    ensures word { λ _. ⌜ now (word .exit) ≡ now (word .entry) ⌝ }
+{
+    let n = map.n();
+    if message.len() != informed_count(map) {
+        return Err(MapFault::Buffer);
+    }
+    if word.len() != two_to(n) {
+        return Err(MapFault::Buffer);
+    }
+    transform_row(word, n);
+    gather(map, word, message);
     transform_row(word, n);
     Ok(())
 }

@@ -1,1 +1,15 @@
+pub mod Admissions
+pub mod Agreement
+pub mod Bounds
+pub mod Calls
+pub mod Capping
+pub mod Coherence
 pub mod Faults
+pub mod Histories
+pub mod Law
+pub mod Model
+pub mod Stacks
+pub mod States
+pub mod Steps
+pub mod Words
+pub mod Work

@@ -1,0 +1,17 @@
+pub mod CheapSpans
+pub mod Counts
+pub mod Leads
+pub mod Loads
+pub mod Made
+pub mod Overwrites
+pub mod PartWrites
+pub mod Paths
+pub mod Places
+pub mod Refines
+pub mod Rooms
+pub mod Runs
+pub mod SpansAsked
+pub mod Standing
+pub mod StepLaws
+pub mod Tops
+pub mod Walks
