@@ -15,7 +15,7 @@ HERE = os.path.dirname(os.path.realpath(__file__))
 sys.path.insert(0, os.path.join(HERE, "..", "tools"))
 from outside import answers
 
-LETTERS = "SOKLE"          # the letters that this release knows
+LETTERS = "SOKLBEWVATX"          # the letters that this release knows
 
 
 # Orders
@@ -94,6 +94,25 @@ def E(message):
     return b"E" + message
 
 
+def B(first, second):
+    return b"B" + bytes([first, second])
+
+
+def W(values):
+    return b"W" + values
+
+
+def V(values):
+    return b"V" + two_bytes(len(values)) + values
+
+
+def A(allowance):
+    return b"A" + two_bytes(allowance)
+
+
+T, X = b"T", b"X"
+
+
 # The message of 512 bits: the SHA-512 of the text `polar`, the highest bit of each byte first.
 MESSAGE = bits("".join("{:08b}".format(byte) for byte in hashlib.sha512(b"polar").digest()))
 
@@ -107,6 +126,52 @@ RANKED = b"wr" + O(ORDER_OF_1024) + K(512) + E(MESSAGE)
 # Slots 0 and 1 are lawful, slot 2 is not; the file ends within the record of slot 3.
 SHELF = record(ORDER_OF_8) + record(ORDER_OF_1024) + record(NOT_LAWFUL) + record(ORDER_OF_8)[:9]
 SHELVED = b"wr" + S(0) + K(4) + E(bits("1011")) + S(1) + E(bits("0110")) + K(512) + E(MESSAGE) + S(2) + S(3) + K(0) + E(b"")
+
+# Bytes of whole numbers: bit 7 is the sign, the low seven bits the size.
+NOISY = bytes.fromhex("09850505")
+DECODED = b"wr" + O([3, 2, 1, 0]) + K(3) + W(NOISY) + T + A(1) + T
+
+# The same word at caps 10 10 and 0 0, with caps changed after three steps, one step at a time, dropped half way, and cut short.
+EIGHT = bytes.fromhex("8503840281050607")
+STEPS = b"wr" + O(ORDER_OF_8) + K(4) + b"".join([
+    W(EIGHT) + A(65535) + T,
+    B(0, 0) + W(EIGHT) + A(0) + A(28) + A(1) + T,
+    B(10, 10) + W(EIGHT) + A(3) + B(0, 0) + A(65535) + T,
+    B(2, 10) + W(EIGHT) + A(1) * 6 + X,
+    V(EIGHT[:5]) + A(100) + T,
+    K(0) + W(EIGHT) + A(1) + T,
+])
+
+# The ranked code of 1024, its word received with every 37th sign turned, at sizes from 1 on; then with all sizes zero.
+def received(word, size, turned):
+    return bytes((bit ^ (turned(i))) << 7 | size(i) for i, bit in enumerate(word))
+
+
+def word_of(session):
+    line = answers(session, None, LETTERS).splitlines()[-1]
+    return [byte - 48 for byte in line.split()[-1]]
+
+
+SENT = word_of(RANKED)
+RANKED_DECODED = RANKED + b"".join([
+    W(received(SENT, lambda i: 1 + i % 100, lambda i: i % 37 == 5)) + A(65535) + T,
+    W(received(SENT, lambda i: 0, lambda i: 0)) + A(1000) + A(1000) + T,
+])
+
+# Erasures: a third of the positions lost, in a listed code.
+ERASED = b"el" + L(bits("0000000100010111")) + W(b"0?1?01?10?1?01?1") + A(65535) + T + W(b"0?1?01?10?1?0121") + X
+
+RECEIVER_REFUSED = b"wl" + b"".join([
+    A(1), T, X, B(1, 1), V(bits("1")),   # 17: there is no map yet
+    L(bits("0111")),
+    A(1), T, X,                          # 11: no word is in hand
+    B(11, 0), B(0, 11),                  # 13: a cap above 10
+    V(b""), V(bytes(5)),                 # 8: a short word of no byte, or of more than N
+    W(NOISY), W(NOISY), V(NOISY[:1]),    # 10: a word is in hand
+    L(bits("01")),                       # 10: the map is good, but a word is in hand
+    T,                                   # 12: steps remain
+    A(13), T,
+])
 
 REFUSALS = b"wr" + b"".join([
     K(1),                            # 17: there is no order yet
@@ -139,6 +204,11 @@ SAMPLES = [               # name, session, shelf (None: there is no file)
     ("listed", LISTED, None),
     ("ranked", RANKED, None),
     ("shelf/shelf", SHELVED, SHELF),
+    ("decoded", DECODED, None),
+    ("steps", STEPS, None),
+    ("ranked-decoded", RANKED_DECODED, None),
+    ("erased", ERASED, None),
+    ("receiver-refused", RECEIVER_REFUSED, None),
     ("refusals", REFUSALS, None),
     ("refused-listed", REFUSED_LISTED, None),
     ("refused-header", REFUSED_HEADER, None),

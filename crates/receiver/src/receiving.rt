@@ -50,6 +50,13 @@ impl<M: Map + Copy, S: Soft + Copy> Receiver<M, S> {
         }
     }
 
+    // The map in force.
+    pub fn map(&self) -> M
+        ensures { λ r. ⌜ r ≡ now (self .entry) .map ⌝ }
+    {
+        self.map
+    }
+
     // Puts another map in force, unless a word is in hand.
     pub fn remap(&mut self, map: M) -> Result<(), ReceiverFault>
         ensures answer { λ r. ⌜ r ≡ replied (admitted (now (self .entry) .state) Asked.Remap) tt ⌝ }

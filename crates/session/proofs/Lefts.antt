@@ -20,7 +20,8 @@ use Rattle.session.specs.declared.commands.Make.the-variants.{Ranked, Listed}
 use Rattle.session.specs.declared.faults.SessionFault.{SessionFault}
 use Rattle.session.specs.declared.faults.SessionFault.the-variants.{Cut, Letter}
 use Rattle.session.specs.Faults.{ofMap}
-use Rattle.session.specs.Commands.{Request, order, listed, encode, Read, keeping, counted, readSlot, readOrder, readRanked, readListed, readEncode, readInRanked, readInListed, readCommand}
+use Rattle.session.specs.declared.commands.Sizes.{Sizes}
+use Rattle.session.specs.Commands.{Request, order, ranked, listed, encode, caps, word, shortWord, advance, taking, dropping, Read, keeping, counted, readPair, readSized, readSlot, readOrder, readRanked, readListed, readEncode, readCaps, readWord, readShortWord, readAdvance, readInRanked, readInListed, readInMake, readLetter, readCommand}
 use Rattle.session.specs.States.{Placed, Left}
 
 -- what follows some bytes is left of them
@@ -68,10 +69,19 @@ pub fine-slot : (session : List ℕ) (at : ℕ) (bytes : List ℕ) → Fine sess
 fine-slot session at [] = fine-err session at [] _
 fine-slot session at (x ∷ bytes) = fine-ok session at (x ∷ bytes) _ (left-drop 1 (x ∷ bytes)) tt
 
-pub fine-ranked : (session : List ℕ) (at : ℕ) (bytes : List ℕ) → Fine session at bytes (readRanked at bytes)
-fine-ranked session at [] = fine-err session at [] _
-fine-ranked session at (h ∷ []) = fine-err session at (h ∷ []) _
-fine-ranked session at (h ∷ (l ∷ bytes)) = fine-ok session at (h ∷ (l ∷ bytes)) _ (left-drop 2 (h ∷ (l ∷ bytes))) tt
+pub fine-pair : (session : List ℕ) (at : ℕ) (asks : ℕ → ℕ → Request) (bytes : List ℕ) → ((h l : ℕ) → Placed session at (asks h l)) →
+    Fine session at bytes (readPair at asks bytes)
+fine-pair session at asks [] p = fine-err session at [] _
+fine-pair session at asks (h ∷ []) p = fine-err session at (h ∷ []) _
+fine-pair session at asks (h ∷ (l ∷ bytes)) p = fine-ok session at (h ∷ (l ∷ bytes)) _ (left-drop 2 (h ∷ (l ∷ bytes))) (p h l)
+
+pub fine-short : (session : List ℕ) (at : ℕ) (bytes : List ℕ) → Fine session at bytes (readShortWord at bytes)
+fine-short session at [] = fine-err session at [] _
+fine-short session at (h ∷ []) = fine-err session at (h ∷ []) _
+fine-short session at (h ∷ (l ∷ bytes)) =
+    fine-when session at (h ∷ (l ∷ bytes)) _ _ (Err (Cut at))
+    (λ _. fine-ok session at (h ∷ (l ∷ bytes)) _ (left-left (h ∷ (l ∷ bytes)) _ _ (left-drop 2 (h ∷ (l ∷ bytes))) (left-drop (h * 256 + l) bytes)) tt)
+    (fine-err session at (h ∷ (l ∷ bytes)) (Cut at))
 
 -- an order's ranks stand after its letter and its n
 pub ranks-placed : (session : List ℕ) (at n count : ℕ) (bs : List ℕ) → n ∷ bs ≡ drop (at + 1) session → leb count (length bs) ≡ true →
@@ -81,23 +91,41 @@ ranks-placed session at n count bs e h =
     let d : bs ≡ drop (at + 2) session = ap (drop 1) e ∙ (drop-drop 1 (at + 1) session ∙ ap (λ m. drop m session) (omega arith)) in
     (omega (arith, l, leb-true count (length bs) h, ap length e, length-drop (at + 1) session), rw l (ap (take count) d))
 
-pub fine-encode : (session : List ℕ) (at : ℕ) (count : Option ℕ) (bytes : List ℕ) → Fine session at bytes (readEncode at count bytes)
-fine-encode session at None bytes = fine-err session at bytes _
-fine-encode session at (Some k) bytes = fine-keeping session at bytes encode k (λ xs. tt)
+pub fine-sized : (session : List ℕ) (at : ℕ) (asks : List ℕ → Request) (size : Sizes → ℕ) (sizes : Option Sizes) (bytes : List ℕ) →
+    ((xs : List ℕ) → Placed session at (asks xs)) → Fine session at bytes (readSized at asks size sizes bytes)
+fine-sized session at asks size None bytes p = fine-err session at bytes _
+fine-sized session at asks size (Some k) bytes p = fine-keeping session at bytes asks (size k) p
 
 pub fine-in-ranked : (session : List ℕ) (at letter : ℕ) (bytes : List ℕ) → bytes ≡ drop (at + 1) session → Fine session at bytes (readInRanked at letter bytes)
 fine-in-ranked session at letter bytes e =
     fine-when session at bytes (eqb letter 83) (readSlot at bytes) _ (λ _. fine-slot session at bytes)
     (fine-when session at bytes (eqb letter 79) (readOrder at bytes) _ (λ _. fine-counted session at bytes order (λ n. 2 * 2 ^ n) (λ n bs f h. ranks-placed session at n (2 * 2 ^ n) bs (sym f ∙ e) h))
-    (fine-when session at bytes (eqb letter 75) (readRanked at bytes) (Err (Letter at)) (λ _. fine-ranked session at bytes) (fine-err session at bytes (Letter at))))
+    (fine-when session at bytes (eqb letter 75) (readRanked at bytes) (Err (Letter at)) (λ _. fine-pair session at (λ h l. ranked (h * 256 + l)) bytes (λ h l. tt)) (fine-err session at bytes (Letter at))))
+
+pub fine-in-make : (session : List ℕ) (make : Make) (at letter : ℕ) (bytes : List ℕ) → bytes ≡ drop (at + 1) session → Fine session at bytes (readInMake make at letter bytes)
+fine-in-make session Ranked at letter bytes e = fine-in-ranked session at letter bytes e
+fine-in-make session Listed at letter bytes e =
+    fine-when session at bytes (eqb letter 76) (readListed at bytes) (Err (Letter at)) (λ _. fine-counted session at bytes listed (λ n. 2 ^ n) (λ n bs f h. tt)) (fine-err session at bytes (Letter at))
+
+-- a command that keeps nothing
+pub fine-bare : (session : List ℕ) (at : ℕ) (bytes : List ℕ) (q : Request) → Placed session at q → Fine session at bytes (Ok (record { request = q; rest = bytes }))
+fine-bare session at bytes q p = fine-ok session at bytes _ (left-drop 0 bytes) p
+
+pub fine-letter : (session : List ℕ) (make : Make) (sizes : Option Sizes) (at letter : ℕ) (bytes : List ℕ) → bytes ≡ drop (at + 1) session →
+    Fine session at bytes (readLetter make sizes at letter bytes)
+fine-letter session make sizes at letter bytes e =
+    fine-when session at bytes (eqb letter 69) (readEncode at sizes bytes) _ (λ _. fine-sized session at encode (λ z. z .informed) sizes bytes (λ xs. tt))
+    (fine-when session at bytes (eqb letter 66) (readCaps at bytes) _ (λ _. fine-pair session at caps bytes (λ h l. tt))
+    (fine-when session at bytes (eqb letter 87) (readWord at sizes bytes) _ (λ _. fine-sized session at word (λ z. z .positions) sizes bytes (λ xs. tt))
+    (fine-when session at bytes (eqb letter 86) (readShortWord at bytes) _ (λ _. fine-short session at bytes)
+    (fine-when session at bytes (eqb letter 65) (readAdvance at bytes) _ (λ _. fine-pair session at (λ h l. advance (h * 256 + l)) bytes (λ h l. tt))
+    (fine-when session at bytes (eqb letter 84) _ _ (λ _. fine-bare session at bytes taking tt)
+    (fine-when session at bytes (eqb letter 88) _ _ (λ _. fine-bare session at bytes dropping tt)
+    (fine-in-make session make at letter bytes e)))))))
 
 -- every command that is read leaves a part of its bytes, and stands where it says
-pub fine-command : (session : List ℕ) (make : Make) (count : Option ℕ) (at letter : ℕ) (bytes : List ℕ) → bytes ≡ drop (at + 1) session →
-    Fine session at bytes (readCommand make count at letter bytes)
+pub fine-command : (session : List ℕ) (make : Make) (sizes : Option Sizes) (at letter : ℕ) (bytes : List ℕ) → bytes ≡ drop (at + 1) session →
+    Fine session at bytes (readCommand make sizes at letter bytes)
 unfolding readCommand
-fine-command session Ranked count at letter bytes e =
-    fine-when session at bytes (eqb letter 69) (readEncode at count bytes) (readInRanked at letter bytes) (λ _. fine-encode session at count bytes)
-    (fine-in-ranked session at letter bytes e)
-fine-command session Listed count at letter bytes e =
-    fine-when session at bytes (eqb letter 69) (readEncode at count bytes) (readInListed at letter bytes) (λ _. fine-encode session at count bytes)
-    (fine-when session at bytes (eqb letter 76) (readListed at bytes) (Err (Letter at)) (λ _. fine-counted session at bytes listed (λ n. 2 ^ n) (λ n bs f h. tt)) (fine-err session at bytes (Letter at)))
+fine-command session make sizes at letter bytes e =
+    fine-letter session make sizes at letter bytes e

@@ -1,13 +1,13 @@
 -- Text that grows piece by piece.
 use Prim.Native.Nat.{ℕ, _+_, _/_, _%_, _^_, _≤_, _<_}
-use mathlib.Core.Path.{_≡_, sym}
+use mathlib.Core.Path.{_≡_, refl, sym}
 use mathlib.Core.List.{List, [], _∷_, _++_, append-assoc}
 use mathlib.Core.Bool.{cond}
 use native.Mathlib.Omega.{arith}
 use lib.ListN.{length, getD, take}
 use lib.Dec.{eqb}
 use Rattle.std.proofs.shelf.Lists.{append-nil, map-append, take-more}
-use Rattle.session.specs.Text.{fields, bitsText, lineStart}
+use Rattle.session.specs.Text.{fields, bitsText, messageText, lineStart}
 use Rattle.std.specs.Written.{decimal}
 use Rattle.std.proofs.shelf.Decimals.{decimal-digit, decimal-step}
 
@@ -44,3 +44,22 @@ one-field xs start f = simp append-assoc
 pub two-fields : (xs start f g : List ℕ) →
     (((((xs ++ start) ++ (32 ∷ [])) ++ f) ++ (32 ∷ [])) ++ g) ++ (10 ∷ []) ≡ xs ++ (start ++ (fields (f ∷ (g ∷ [])) ++ (10 ∷ [])))
 two-fields xs start f g = simp append-assoc
+
+-- the pieces of a line with nothing after its start
+pub no-field : (xs start : List ℕ) → (xs ++ start) ++ (10 ∷ []) ≡ xs ++ (start ++ (fields [] ++ (10 ∷ [])))
+no-field xs start = simp append-assoc
+
+-- the pieces of a line with three fields after its start
+pub three-fields : (xs start f g h : List ℕ) →
+    (((((((xs ++ start) ++ (32 ∷ [])) ++ f) ++ (32 ∷ [])) ++ g) ++ (32 ∷ [])) ++ h) ++ (10 ∷ []) ≡ xs ++ (start ++ (fields (f ∷ (g ∷ (h ∷ []))) ++ (10 ∷ [])))
+three-fields xs start f g h = simp append-assoc
+
+-- a message that has bits
+pub message-some : (bits : List ℕ) → (length bits ≡ 0 → ⊥) → messageText bits ≡ bitsText bits
+message-some [] some = absurd (some refl)
+message-some (b ∷ bits) some = refl
+
+-- a message that has none
+pub message-none : (bits : List ℕ) → length bits ≡ 0 → messageText bits ≡ 45 ∷ []
+message-none [] none = refl
+message-none (b ∷ bits) none = absurd (omega arith)

@@ -15,21 +15,21 @@ use Rattle.session.specs.declared.faults.SessionFault.{SessionFault}
 use Rattle.session.specs.Commands.{headerOf}
 use Rattle.session.specs.Faults.{reportOf}
 use Rattle.session.specs.Text.{refusedLine}
-use Rattle.session.specs.Sessions.{Opening, opened, opening, linesFrom, nothing, answers}
+use Rattle.session.specs.Sessions.{Opening, opened, opening, linesOf, answers}
 
 -- a header that is right
-pub header-read : (a b : ℕ) (bytes : List ℕ) (h : Header) → Ok h ≡ headerOf a b → Ok (record { make = h .make; commands = bytes }) ≡ opened (a ∷ (b ∷ bytes))
+pub header-read : (a b : ℕ) (bytes : List ℕ) (h : Header) → Ok h ≡ headerOf a b → Ok (record { number = h .number; make = h .make; commands = bytes }) ≡ opened (a ∷ (b ∷ bytes))
 header-read a b bytes h e = go (headerOf a b) e
   where
     go : (o : Result Header SessionFault) → Ok h ≡ o →
-        _≡_ {A = Result Opening SessionFault} (Ok (record { make = h .make; commands = bytes })) (elim o [ Err f ↦ Err f | Ok x ↦ Ok (record { make = x .make; commands = bytes }) ])
+        _≡_ {A = Result Opening SessionFault} (Ok (record { number = h .number; make = h .make; commands = bytes })) (elim o [ Err f ↦ Err f | Ok x ↦ Ok (record { number = x .number; make = x .make; commands = bytes }) ])
     go (Ok x) f = let q : h ≡ x = cc in rw q
     go (Err g) f = let z : _≡_ {A = ℕ} 0 1 = cc in absurd (omega arith)
 
 -- a session that is short enough, and whose header is right
 pub opened-whole : (session shelf : List ℕ) (h : Header) → length session ≤ 65536 → length shelf ≤ 65536 → 1 < length session →
     Ok h ≡ headerOf (getD session 0 0) (getD session 1 0) →
-    Ok (record { make = h .make; commands = take (length session - 2) (drop 2 session) }) ≡ opening session shelf
+    Ok (record { number = h .number; make = h .make; commands = take (length session - 2) (drop 2 session) }) ≡ opening session shelf
 opened-whole [] shelf h l m some e = absurd (omega arith)
 opened-whole (a ∷ []) shelf h l m some e = absurd (omega arith)
 opened-whole (a ∷ (b ∷ bytes)) shelf h l m some e =
@@ -44,7 +44,7 @@ take-min size xs = elim (cases-lt size (length xs)) [
 
 -- what a session prints that begins well
 pub answers-lines : (session shelf : List ℕ) (o : Opening) → Ok o ≡ opening session shelf →
-    linesFrom (length (o .commands)) (o .make) shelf (length session) 0 (o .commands) nothing ≡ answers session shelf
+    linesOf (length session) shelf o ≡ answers session shelf
 unfolding answers
 answers-lines session shelf o e = rw (← e, answers)
 

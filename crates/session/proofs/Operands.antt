@@ -10,7 +10,7 @@ use lib.Dec.{leb}
 use Rattle.std.proofs.shelf.Lists.{take-rest}
 use Rattle.std.specs.declared.result.Result.the-variants.{Ok, Err}
 use Rattle.code.specs.Spans.{goodExponent}
-use Rattle.session.specs.Commands.{Request, keeping, counted, readRanked, ranked, readSlot, slot}
+use Rattle.session.specs.Commands.{Request, keeping, counted, readPair, readSlot, slot, shortWord, readShortWord}
 
 -- an answer that is `Ok` under a test tells that the test came out true
 pub ok-when : {T E : Type 0} (b : Bool) (x m : T) (e : E) → Ok x ≡ cond b (Ok m) (Err e) → (b ≡ true) × (x ≡ m)
@@ -40,11 +40,19 @@ pub slot-whole : (at : ℕ) (bytes : List ℕ) → 0 < length bytes →
 slot-whole at [] some = absurd (omega arith)
 slot-whole at (s ∷ bytes) some = rw (take-rest (s ∷ bytes) 1)
 
-pub ranked-whole : (at : ℕ) (bytes : List ℕ) (k : ℕ) → 1 < length bytes → k ≡ getD bytes 0 0 * 256 + getD bytes 1 0 →
-    Ok (record { request = ranked k; rest = take (length bytes - 2) (drop 2 bytes) }) ≡ readRanked at bytes
-ranked-whole at [] k some e = absurd (omega arith)
-ranked-whole at (h ∷ []) k some e = absurd (omega arith)
-ranked-whole at (h ∷ (l ∷ bytes)) k some e = rw (take-rest (h ∷ (l ∷ bytes)) 2, e)
+pub pair-whole : (at : ℕ) (asks : ℕ → ℕ → Request) (bytes : List ℕ) (q : Request) → 1 < length bytes → q ≡ asks (getD bytes 0 0) (getD bytes 1 0) →
+    Ok (record { request = q; rest = take (length bytes - 2) (drop 2 bytes) }) ≡ readPair at asks bytes
+pair-whole at asks [] q some e = absurd (omega arith)
+pair-whole at asks (h ∷ []) q some e = absurd (omega arith)
+pair-whole at asks (h ∷ (l ∷ bytes)) q some e = rw (take-rest (h ∷ (l ∷ bytes)) 2, e)
+
+-- m, then the m bytes
+pub short-whole : (at : ℕ) (bytes rest : List ℕ) (count : ℕ) → 1 < length bytes → rest ≡ drop 2 bytes → count ≡ getD bytes 0 0 * 256 + getD bytes 1 0 →
+    leb count (length rest) ≡ true →
+    Ok (record { request = shortWord (take (count - 0) rest); rest = take (length rest - count) (drop count rest) }) ≡ readShortWord at bytes
+short-whole at [] rest count some e c h = absurd (omega arith)
+short-whole at (x ∷ []) rest count some e c h = absurd (omega arith)
+short-whole at (x ∷ (y ∷ bytes)) rest count some e c h = keeping-all at shortWord count rest h ∙ rw (e, c)
 
 -- an answer that is `Err` under a test tells that the test came out false
 pub err-when : {T E : Type 0} (b : Bool) (x e : E) (m : T) → Err x ≡ cond b (Ok m) (Err e) → b ≡ false

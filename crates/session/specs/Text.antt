@@ -23,6 +23,11 @@ line number letter answer more = lineStart number letter answer ++ (fields more 
 unfoldable pub bitsText : List ℕ → List ℕ
 bitsText bits = map (λ b. cond (eqb b 0) 48 49) bits
 
+-- the bits of a message, or `-` if there are none
+abbrev pub messageText : List ℕ → List ℕ
+messageText [] = 45 ∷ []
+messageText (b ∷ bits) = bitsText (b ∷ bits)
+
 -- a letter that is not known is printed as `?`, and so is a session that is too long
 abbrev pub shownLetter : Report → ℕ → ℕ
 shownLetter report letter = cond (eqb (report .number) 15 || eqb (report .number) 19) 63 letter

@@ -34,4 +34,23 @@ pub enum Command<'a> {
     Listed { n: u8, marks: &'a [u8] },
     // `E`: a message to encode.
     Encode { message: &'a [u8] },
+    // `B`: both caps.
+    Caps { first: u8, second: u8 },
+    // `W`: a received word.
+    Word { bytes: &'a [u8] },
+    // `V`: a received word whose last positions are filled.
+    ShortWord { bytes: &'a [u8] },
+    // `A`: steps of the word in hand.
+    Advance { allowance: u16 },
+    // `T`: the decoded word.
+    Take,
+    // `X`: the word in hand is given up.
+    Drop,
+}
+
+// How many bytes `E` and `W` take under the map in force.
+#[derive(Clone, Copy)]
+pub struct Sizes {
+    pub informed: usize,
+    pub positions: usize,
 }

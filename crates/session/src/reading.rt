@@ -8,12 +8,13 @@ ghost use Rattle.std.specs.declared.result.Result.the-variants.{Ok, Err};
 ghost use Rattle.code.specs.declared.faults.MapFault.the-variants.{Exponent};
 ghost use Rattle.code.specs.Spans.{goodExponent};
 ghost use Rattle.session.specs.declared.faults.SessionFault.the-variants.{Cut};
-ghost use Rattle.session.specs.Commands.{readSlot, readOrder, readRanked, readListed, readEncode, readInRanked, readInListed, readCommand, headerOf};
+ghost use Rattle.session.specs.Commands.{readSlot, readOrder, readRanked, readListed, readEncode, readCaps, readWord, readShortWord, readAdvance, readInRanked, readInListed, readInMake, readLetter, readCommand, headerOf};
 ghost use Rattle.session.specs.Readings.{readingOf};
 use crate::commands::Command;
 use crate::commands::Header;
 use crate::commands::Make;
 use crate::commands::Number;
+use crate::commands::Sizes;
 use crate::faults::SessionFault;
 use crate::faults::SessionFromMap;
 use code::faults::MapFault;
@@ -120,14 +121,15 @@ fn read_listed<'a>(at: usize, bytes: &'a [u8]) -> Result<Reading<'a>, SessionFau
 
 fn read_encode<'a>(
     at: usize,
-    count: Option<usize>,
+    sizes: Option<Sizes>,
     bytes: &'a [u8],
 ) -> Result<Reading<'a>, SessionFault>
-    ensures { λ r. ⌜ readingOf r ≡ readEncode at count (now (bytes .entry)) ⌝ }
+    ensures { λ r. ⌜ readingOf r ≡ readEncode at sizes (now (bytes .entry)) ⌝ }
 {
-    let Some(count) = count else {
+    let Some(sizes) = sizes else {
         return Err(SessionFault::NoMap(at));
     };
+    let count = sizes.informed;
     enough(at, count, bytes)?;
     Ok(Reading {
         command: Command::Encode {
@@ -135,6 +137,71 @@ fn read_encode<'a>(
         },
         rest: &bytes[count..],
     })
+}
+
+fn read_caps<'a>(at: usize, bytes: &'a [u8]) -> Result<Reading<'a>, SessionFault>
+    ensures { λ r. ⌜ readingOf r ≡ readCaps at (now (bytes .entry)) ⌝ }
+{
+    match bytes {
+        [first, second, rest @ ..] => Ok(Reading {
+            command: Command::Caps {
+                first: *first,
+                second: *second,
+            },
+            rest,
+        }),
+        _ => Err(SessionFault::Cut(at)),
+    }
+}
+
+fn read_word<'a>(
+    at: usize,
+    sizes: Option<Sizes>,
+    bytes: &'a [u8],
+) -> Result<Reading<'a>, SessionFault>
+    ensures { λ r. ⌜ readingOf r ≡ readWord at sizes (now (bytes .entry)) ⌝ }
+{
+    let Some(sizes) = sizes else {
+        return Err(SessionFault::NoMap(at));
+    };
+    let count = sizes.positions;
+    enough(at, count, bytes)?;
+    Ok(Reading {
+        command: Command::Word {
+            bytes: &bytes[0..count],
+        },
+        rest: &bytes[count..],
+    })
+}
+
+fn read_short_word<'a>(at: usize, bytes: &'a [u8]) -> Result<Reading<'a>, SessionFault>
+    ensures { λ r. ⌜ readingOf r ≡ readShortWord at (now (bytes .entry)) ⌝ }
+{
+    let [high, low, rest @ ..] = bytes else {
+        return Err(SessionFault::Cut(at));
+    };
+    let count = u16::from_be_bytes([*high, *low]) as usize;
+    enough(at, count, rest)?;
+    Ok(Reading {
+        command: Command::ShortWord {
+            bytes: &rest[0..count],
+        },
+        rest: &rest[count..],
+    })
+}
+
+fn read_advance<'a>(at: usize, bytes: &'a [u8]) -> Result<Reading<'a>, SessionFault>
+    ensures { λ r. ⌜ readingOf r ≡ readAdvance at (now (bytes .entry)) ⌝ }
+{
+    match bytes {
+        [high, low, rest @ ..] => Ok(Reading {
+            command: Command::Advance {
+                allowance: u16::from_be_bytes([*high, *low]),
+            },
+            rest,
+        }),
+        _ => Err(SessionFault::Cut(at)),
+    }
 }
 
 // The letters of ranked sessions.
@@ -159,23 +226,60 @@ fn read_in_listed<'a>(at: usize, letter: u8, bytes: &'a [u8]) -> Result<Reading<
     }
 }
 
-// The command with this letter, which stands at offset `at`; `count` is that of informed positions, if there is a map.
-pub(crate) fn read_command<'a>(
+// The letters of one make of session alone.
+fn read_in_make<'a>(
     make: Make,
-    count: Option<usize>,
     at: usize,
     letter: u8,
     bytes: &'a [u8],
 ) -> Result<Reading<'a>, SessionFault>
-    ensures { λ r. ⌜ readingOf r ≡ readCommand make count at letter (now (bytes .entry)) ⌝ }
+    ensures { λ r. ⌜ readingOf r ≡ readInMake make at letter (now (bytes .entry)) ⌝ }
 {
-    if letter == b'E' {
-        return read_encode(at, count, bytes);
-    }
     match make {
         Make::Ranked => read_in_ranked(at, letter, bytes),
         Make::Listed => read_in_listed(at, letter, bytes),
     }
+}
+
+// The letters of every session, then those of its make.
+fn read_letter<'a>(
+    make: Make,
+    sizes: Option<Sizes>,
+    at: usize,
+    letter: u8,
+    bytes: &'a [u8],
+) -> Result<Reading<'a>, SessionFault>
+    ensures { λ r. ⌜ readingOf r ≡ readLetter make sizes at letter (now (bytes .entry)) ⌝ }
+{
+    match letter {
+        b'E' => read_encode(at, sizes, bytes),
+        b'B' => read_caps(at, bytes),
+        b'W' => read_word(at, sizes, bytes),
+        b'V' => read_short_word(at, bytes),
+        b'A' => read_advance(at, bytes),
+        b'T' => Ok(Reading {
+            command: Command::Take,
+            rest: bytes,
+        }),
+        b'X' => Ok(Reading {
+            command: Command::Drop,
+            rest: bytes,
+        }),
+        _ => read_in_make(make, at, letter, bytes),
+    }
+}
+
+// The command with this letter, which stands at offset `at`; `sizes` are those of the map in force, if there is one.
+pub(crate) fn read_command<'a>(
+    make: Make,
+    sizes: Option<Sizes>,
+    at: usize,
+    letter: u8,
+    bytes: &'a [u8],
+) -> Result<Reading<'a>, SessionFault>
+    ensures { λ r. ⌜ readingOf r ≡ readCommand make sizes at letter (now (bytes .entry)) ⌝ }
+{
+    read_letter(make, sizes, at, letter, bytes)
 }
 
 // The header that these two bytes make.

@@ -6,7 +6,7 @@ ghost use lib.Dec.{eqb};
 ghost use Rattle.std.specs.Of.Vec.{vec-items};
 ghost use Rattle.std.specs.Vec.{made};
 ghost use Rattle.std.specs.Written.{decimal};
-ghost use Rattle.session.specs.Text.{lineStart, bitsText, shownLetter, refusedLine, doneLine};
+ghost use Rattle.session.specs.Text.{lineStart, bitsText, messageText, shownLetter, refusedLine, doneLine};
 use code::faults::Report;
 use std::alloc::AllocError;
 
@@ -29,6 +29,17 @@ fn push_bits(text: &mut Vec<u8>, bits: &[u8]) -> Result<(), AllocError>
         text.push(bit_char(*bit))?;
     }
     Ok(())
+}
+
+// Appends the bits of a message, or `-` if there are none.
+fn push_message(text: &mut Vec<u8>, bits: &[u8]) -> Result<(), AllocError>
+    ensures { λ r. ⌜ made r (λ _. vec-items (now (text .exit)) ≡ vec-items (now (text .entry)) ++ messageText (now (bits .entry))) ⌝ }
+{
+    if bits.is_empty() {
+        text.push(b'-')?;
+        return Ok(());
+    }
+    push_bits(text, bits)
 }
 
 fn bit_char(bit: u8) -> u8
@@ -113,6 +124,56 @@ pub(crate) fn push_word(
     ensures { λ r. ⌜ made r (λ _. vec-items (now (text .exit)) ≡ vec-items (now (text .entry)) ++ doneLine number letter (bitsText (now (word .entry)) ∷ [])) ⌝ }
 {
     push_start(text, number, letter, 0)?;
+    text.push(b' ')?;
+    push_bits(text, word)?;
+    text.push(b'\n')?;
+    Ok(())
+}
+
+// Appends the line of a command that answers nothing more.
+pub(crate) fn push_plain(text: &mut Vec<u8>, number: usize, letter: u8) -> Result<(), AllocError>
+    ensures { λ r. ⌜ made r (λ _. vec-items (now (text .exit)) ≡ vec-items (now (text .entry)) ++ doneLine number letter []) ⌝ }
+{
+    push_start(text, number, letter, 0)?;
+    text.push(b'\n')?;
+    Ok(())
+}
+
+// Appends the line of a command that answers two numbers.
+pub(crate) fn push_pair(
+    text: &mut Vec<u8>,
+    number: usize,
+    letter: u8,
+    first: usize,
+    second: usize,
+) -> Result<(), AllocError>
+    ensures { λ r. ⌜ made r (λ _. vec-items (now (text .exit)) ≡ vec-items (now (text .entry)) ++ doneLine number letter (decimal first ∷ (decimal second ∷ []))) ⌝ }
+{
+    push_start(text, number, letter, 0)?;
+    text.push(b' ')?;
+    push_number(text, first)?;
+    text.push(b' ')?;
+    push_number(text, second)?;
+    text.push(b'\n')?;
+    Ok(())
+}
+
+// Appends the line of a command that answers a count of steps, a message and a word.
+pub(crate) fn push_taken(
+    text: &mut Vec<u8>,
+    number: usize,
+    letter: u8,
+    steps: usize,
+    message: &[u8],
+    word: &[u8],
+) -> Result<(), AllocError>
+    ensures { λ r. ⌜ made r (λ _. vec-items (now (text .exit)) ≡ vec-items (now (text .entry)) ++ doneLine number letter (decimal steps ∷ (messageText (now (message .entry)) ∷ (bitsText (now (word .entry)) ∷ [])))) ⌝ }
+{
+    push_start(text, number, letter, 0)?;
+    text.push(b' ')?;
+    push_number(text, steps)?;
+    text.push(b' ')?;
+    push_message(text, message)?;
     text.push(b' ')?;
     push_bits(text, word)?;
     text.push(b'\n')?;
