@@ -173,6 +173,25 @@ RECEIVER_REFUSED = b"wl" + b"".join([
     A(13), T,
 ])
 
+# Arıkan's small examples, his position numbers bit-reversed: positions 1 0 1 1 give the word 1 1 0 1; the rows of his generator for 8; the order that his
+# values for the erasure channel with half the positions lost give.
+ARIKAN = b"wl" + L(bits("1111")) + E(bits("1011")) + L(bits("11111111")) + b"".join(E(bytes(i == p for i in range(8))) for p in range(8))
+ARIKAN_VALUES = [255, 225, 207, 81, 175, 49, 31, 1]        # times 256, from position 0 on
+ARIKAN_ORDER = b"er" + O([sorted(ARIKAN_VALUES).index(v) for v in ARIKAN_VALUES]) + K(4) + E(bits("1011"))
+
+# Words at which a shortcut would go astray.
+ASTRAY = b"wr" + b"".join([
+    O([1, 0]) + K(1) + W(bytes.fromhex("0383")) + A(99) + T,            # a word of two that are repeated
+    K(2) + W(bytes.fromhex("0083")) + A(99) + T,                        # a zero keeps its sign; the message is not the word
+    O([3, 2, 1, 0]) + K(3) + W(NOISY) + A(99) + T,                      # among equals not the lowest position is turned
+    K(1) + W(bytes.fromhex("01810100")) + A(99) + T,
+])
+ASTRAY_ERASURES = b"er" + O([3, 2, 1, 0]) + K(1) + W(b"010?") + A(99) + T      # Rep is no majority
+ASTRAY_LISTED = b"wl" + b"".join([
+    L(bits("10")) + W(bytes.fromhex("0583")) + A(99) + T,                                       # no kind: five steps
+    L(bits("00100001")) + W(bytes.fromhex("8505850505050505")) + A(99) + T,                     # a listed span is not named by few looks
+])
+
 REFUSALS = b"wr" + b"".join([
     K(1),                            # 17: there is no order yet
     S(0),                            # 18: there is no such slot
@@ -209,6 +228,11 @@ SAMPLES = [               # name, session, shelf (None: there is no file)
     ("ranked-decoded", RANKED_DECODED, None),
     ("erased", ERASED, None),
     ("receiver-refused", RECEIVER_REFUSED, None),
+    ("arikan", ARIKAN, None),
+    ("arikan-order", ARIKAN_ORDER, None),
+    ("astray", ASTRAY, None),
+    ("astray-erasures", ASTRAY_ERASURES, None),
+    ("astray-listed", ASTRAY_LISTED, None),
     ("refusals", REFUSALS, None),
     ("refused-listed", REFUSED_LISTED, None),
     ("refused-header", REFUSED_HEADER, None),
