@@ -1,4 +1,6 @@
 // Plain cancellation and the span rules.
+#![tactic(auto)]
+
 pub mod faults;
 mod places;
 pub mod rows;

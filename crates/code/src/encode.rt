@@ -13,7 +13,7 @@ use crate::transform::transform_row;
 
 // Is this position informed? One past the last is not.
 fn is_informed<M: Map>(map: &M, position: usize) -> bool
-    ensures { result ≡ (slice_index (marks map.now) position == 1) }
+    ensures { result ≡ (slice_index (M.marks map.now) position == 1) }
 {
     match map.mark(position) {
         Ok(Mark::Informed) => true,
@@ -24,8 +24,8 @@ fn is_informed<M: Map>(map: &M, position: usize) -> bool
 
 // How many positions there are.
 pub fn position_count<M: Map>(map: &M) -> usize
-    ensures value { result ≡ 2 ^ exponent map.now }
-    ensures marks { result ≡ length (marks map.now) }
+    ensures value { result ≡ 2 ^ M.exponent map.now }
+    ensures marks { result ≡ length (M.marks map.now) }
     ensures bound { result ≤ 1024 }
 {
     two_to(map.n())
@@ -33,7 +33,7 @@ pub fn position_count<M: Map>(map: &M) -> usize
 
 // How many positions are informed.
 pub fn informed_count<M: Map>(map: &M) -> usize
-    ensures { result ≡ informed_count (marks map.now) }
+    ensures { result ≡ informed_count (M.marks map.now) }
 {
     let size = position_count(map);
     let mut count = 0;
@@ -47,8 +47,8 @@ pub fn informed_count<M: Map>(map: &M) -> usize
 
 // Lays the message on the informed positions in rising order, 0 on the frozen ones.
 fn lay<M: Map>(map: &M, message: &[u8], word: &mut [u8])
-    requires { (length word.old ≡ length (marks map.now)) × (length message.now ≡ informed_count (marks map.now)) }
-    ensures { word.new ≡ laid (marks map.now) message.now }
+    requires { (length word.old ≡ length (M.marks map.now)) × (length message.now ≡ informed_count (M.marks map.now)) }
+    ensures { word.new ≡ laid (M.marks map.now) message.now }
 {
     let mut next = 0;
     for p in 0..word.len() {
@@ -63,9 +63,9 @@ fn lay<M: Map>(map: &M, message: &[u8], word: &mut [u8])
 
 // Writes the word of a message, or refuses and leaves the output as it was. The transform of the word has the message at the informed positions.
 pub fn encode<M: Map>(map: &M, message: &[u8], word: &mut [u8]) -> Result<(), MapFault>
-    ensures answer { result ≡ answer_to (encode_fault (marks map.now) message.now (length word.old)) }
-    ensures word { word.new ≡ in_force (encode_fault (marks map.now) message.now (length word.old)) (encoded (exponent map.now) (marks map.now) message.now) word.old }
-    ensures back { result ≡ Ok tt → informed (marks map.now) (transform (exponent map.now) word.new) ≡ message.now }
+    ensures answer { result ≡ answer_to (encode_fault (M.marks map.now) message.now (length word.old)) }
+    ensures word { word.new ≡ in_force (encode_fault (M.marks map.now) message.now (length word.old)) (encoded (M.exponent map.now) (M.marks map.now) message.now) word.old }
+    ensures back { result ≡ Ok tt → informed (M.marks map.now) (transform (M.exponent map.now) word.new) ≡ message.now }
 {
     let n = map.n();
     if message.len() != informed_count(map) {
@@ -84,8 +84,8 @@ pub fn encode<M: Map>(map: &M, message: &[u8], word: &mut [u8]) -> Result<(), Ma
 
 // Takes the entries at the informed positions, in rising order.
 fn gather<M: Map>(map: &M, bits: &[u8], message: &mut [u8])
-    requires { (length bits.now ≡ length (marks map.now)) × (length message.old ≡ informed_count (marks map.now)) }
-    ensures { message.new ≡ informed (marks map.now) bits.now }
+    requires { (length bits.now ≡ length (M.marks map.now)) × (length message.old ≡ informed_count (M.marks map.now)) }
+    ensures { message.new ≡ informed (M.marks map.now) bits.now }
 {
     let mut next = 0;
     for p in 0..bits.len() {
@@ -98,8 +98,8 @@ fn gather<M: Map>(map: &M, bits: &[u8], message: &mut [u8])
 
 // Writes the message of a word, the transform of the word at the informed positions, or refuses and leaves the output as it was. The word is as it was.
 pub fn message_of<M: Map>(map: &M, word: &mut [u8], message: &mut [u8]) -> Result<(), MapFault>
-    ensures answer { result ≡ answer_to (message_fault (marks map.now) (length word.old) (length message.old)) }
-    ensures message { message.new ≡ in_force (message_fault (marks map.now) (length word.old) (length message.old)) (informed (marks map.now) (transform (exponent map.now) word.old)) message.old }
+    ensures answer { result ≡ answer_to (message_fault (M.marks map.now) (length word.old) (length message.old)) }
+    ensures message { message.new ≡ in_force (message_fault (M.marks map.now) (length word.old) (length message.old)) (informed (M.marks map.now) (transform (M.exponent map.now) word.old)) message.old }
     ensures word { word.new ≡ word.old }
 {
     let n = map.n();

@@ -1,4 +1,6 @@
 // Positions and spans, the polar transform, orders, the two makes of map, and the encoder.
+#![tactic(auto)]
+
 mod bits;
 pub mod choosing;
 pub mod encode;

@@ -1,4 +1,6 @@
 // Reads a session from standard input and a shelf of orders from the folder it runs in, and prints what the session answers.
+#![tactic(auto)]
+
 use session::transcript;
 use std::io::{ErrorKind, Read, Write};
 use std::{fs, io};

@@ -1,4 +1,6 @@
 // The receiver.
+#![tactic(auto)]
+
 mod advancing;
 pub mod answers;
 mod calls;

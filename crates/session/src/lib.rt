@@ -1,4 +1,6 @@
 // Sessions: commands, the shelf of orders, and the lines that are printed.
+#![tactic(auto)]
+
 mod chosen;
 pub mod commands;
 pub mod faults;
