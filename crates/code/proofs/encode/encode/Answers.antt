@@ -7,24 +7,24 @@ use Rattle.code.specs.Transform.{transform}
 use Rattle.code.proofs.Encodings.{wrong_message, wrong_room, message_asked, err_not_ok, read_back}
 use Rattle.code.proofs.encode.encode.Goals as goal
 
-pub returns-then-message-informed-count : goal.returns-then-message-informed-count
-returns-then-message-informed-count g c =
+pub returns-then-message-informed_count : goal.returns-then-message-informed_count
+returns-then-message-informed_count g c =
     let marks = g.M.Map.marks c.args.map.now in
     let message = c.args.message.now in
-    let fault = wrong_message marks message (length c.args.word.now) (λ e. c.if-message-informed-count.true (e ∙ sym c.informed-count.ensures)) in
+    let fault = wrong_message marks message (length c.args.word.now) (λ e. c.if-message-informed_count.true (e ∙ sym c.informed_count.ensures)) in
     record {
       answer = sym (ap answer_to fault);
       word = sym (ap (λ o. in_force o (encoded (g.M.Map.exponent c.args.map.now) marks message) c.args.word.now) fault);
       back = λ e. absurd (err_not_ok e);
     }
 
-pub returns-then-word-two-to : goal.returns-then-word-two-to
-returns-then-word-two-to g c =
+pub returns-then-word-two_to : goal.returns-then-word-two_to
+returns-then-word-two_to g c =
     let marks = g.M.Map.marks c.args.map.now in
     let message = c.args.message.now in
     let fault =
-    wrong_room marks message (length c.args.word.now) (c.if-message-informed-count.false ∙ c.informed-count.ensures)
-    (λ e. c.if-word-two-to.true (e ∙ c.n-n.ensures.means.long ∙ sym c.two-to.ensures)) in
+    wrong_room marks message (length c.args.word.now) (c.if-message-informed_count.false ∙ c.informed_count.ensures)
+    (λ e. c.if-word-two_to.true (e ∙ c.n-n.ensures.means.long ∙ sym c.two_to.ensures)) in
     record {
       answer = sym (ap answer_to fault);
       word = sym (ap (λ o. in_force o (encoded (g.M.Map.exponent c.args.map.now) marks message) c.args.word.now) fault);
@@ -36,8 +36,8 @@ returns-in-Some g c =
     let marks = g.M.Map.marks c.args.map.now in
     let message = c.args.message.now in
     let fault =
-    message_asked marks message (length c.args.word.now) (c.if-message-informed-count.false ∙ c.informed-count.ensures)
-    (c.if-word-two-to.false ∙ c.two-to.ensures ∙ sym c.n-n.ensures.means.long) ∙ ap (option_map Bit) (sym c.in-Some.ensures) in
+    message_asked marks message (length c.args.word.now) (c.if-message-informed_count.false ∙ c.informed_count.ensures)
+    (c.if-word-two_to.false ∙ c.two_to.ensures ∙ sym c.n-n.ensures.means.long) ∙ ap (option_map Bit) (sym c.in-Some.ensures) in
     record {
       answer = sym (ap answer_to fault);
       word = sym (ap (λ o. in_force o (encoded (g.M.Map.exponent c.args.map.now) marks message) c.args.word.now) fault);
@@ -48,12 +48,12 @@ pub returns : goal.returns
 returns g c =
     let marks = g.M.Map.marks c.args.map.now in
     let message = c.args.message.now in
-    let fits = c.if-message-informed-count.false ∙ c.informed-count.ensures in
+    let fits = c.if-message-informed_count.false ∙ c.informed_count.ensures in
     let fault =
     message_asked marks message (length c.args.word.now) fits
-    (c.if-word-two-to.false ∙ c.two-to.ensures ∙ sym c.n-n.ensures.means.long) ∙ ap (option_map Bit) (sym c.in-default.ensures) in
-    let word : c.transform-row.new.bits ≡ encoded (g.M.Map.exponent c.args.map.now) marks message =
-    c.transform-row.ensures ∙ ap (transform c.n-n.result) c.lay.ensures ∙ ap (λ k. transform k (laid marks message)) c.n-n.ensures.value in
+    (c.if-word-two_to.false ∙ c.two_to.ensures ∙ sym c.n-n.ensures.means.long) ∙ ap (option_map Bit) (sym c.in_default.ensures) in
+    let word : c.transform_row.new.bits ≡ encoded (g.M.Map.exponent c.args.map.now) marks message =
+    c.transform_row.ensures ∙ ap (transform c.n-n.result) c.lay.ensures ∙ ap (λ k. transform k (laid marks message)) c.n-n.ensures.value in
     record {
       answer = sym (ap answer_to fault);
       word = word ∙ sym (ap (λ o. in_force o (encoded (g.M.Map.exponent c.args.map.now) marks message) c.args.word.now) fault);

@@ -4,22 +4,22 @@ use Rattle.std.proofs.lemmas.Bool.{eqb-true, eqb-false}
 use Rattle.code.specs.Encode.{informed_count, informed}
 use Rattle.code.proofs.Laying.{count_informed, count_frozen, informed_here, informed_not, laid_more}
 use Rattle.code.proofs.encode.gather.Goals as goal
-use Rattle.code.proofs.encode.gather.Goals.{then-is-informed, else-is-informed}
+use Rattle.code.proofs.encode.gather.Goals.{then-is_informed, else-is_informed}
 
 pub bounds-message-next : goal.bounds-message-next
 bounds-message-next g c =
     let marks = g.M.Map.marks c.args.map.now in
     let within : c.loop-p.p < length marks = omega (arith, c.requires.0, c.loop-p-test.true) in
-    omega (arith, count_informed marks c.loop-p.p within (eqb-true _ 1 (sym c.if-is-informed.ensures)), c.loop-p.invariant.1, c.loop-p.auto.message)
+    omega (arith, count_informed marks c.loop-p.p within (eqb-true _ 1 (sym c.if-is_informed.ensures)), c.loop-p.invariant.1, c.loop-p.auto.message)
 
 pub loop-p-preserved : goal.loop-p-preserved
 loop-p-preserved g c =
     let marks = g.M.Map.marks c.args.map.now in
     let bits = c.args.bits.now in
     let within : c.loop-p.p < length marks = omega (arith, c.requires.0, c.loop-p-test.true) in
-    elim c.if-is-informed.branch [
-      | then-is-informed w ↦
-          let one = eqb-true _ 1 (sym w.if-is-informed.ensures) in
+    elim c.if-is_informed.branch [
+      | then-is_informed w ↦
+          let one = eqb-true _ 1 (sym w.if-is_informed.ensures) in
           let h = count_informed marks c.loop-p.p within one in
           let room : c.loop-p.next < length c.loop-p.message = omega (arith, h, c.loop-p.invariant.1, c.loop-p.auto.message) in (
             ap₂ (λ k row. take k row ++ informed (drop (c.loop-p.p + 1) marks) (drop (c.loop-p.p + 1) bits)) w.next-is w.message-is
@@ -27,8 +27,8 @@ loop-p-preserved g c =
                 (ap (λ rest. take c.loop-p.next c.loop-p.message ++ rest) (sym (informed_here marks bits c.loop-p.p within c.requires.0 one)) ∙ c.loop-p.invariant.0),
             omega (arith, h, w.next-is, c.loop-p.invariant.1),
           )
-      | else-is-informed w ↦
-          let other = eqb-false _ 1 (sym w.if-is-informed.ensures) in
+      | else-is_informed w ↦
+          let other = eqb-false _ 1 (sym w.if-is_informed.ensures) in
           let h = count_frozen marks c.loop-p.p within other in (
             ap₂ (λ k row. take k row ++ informed (drop (c.loop-p.p + 1) marks) (drop (c.loop-p.p + 1) bits)) w.next-is w.message-is
                 ∙ ap (λ rest. take c.loop-p.next c.loop-p.message ++ rest) (sym (informed_not marks bits c.loop-p.p within c.requires.0 other)) ∙ c.loop-p.invariant.0,

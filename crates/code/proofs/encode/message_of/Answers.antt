@@ -6,22 +6,22 @@ use Rattle.code.proofs.Encodings.{message_wrong, word_wrong, both_right}
 use Rattle.code.proofs.Transforms.{keeps_length, undoes_itself}
 use Rattle.code.proofs.encode.message_of.Goals as goal
 
-pub returns-then-message-informed-count : goal.returns-then-message-informed-count
-returns-then-message-informed-count g c =
+pub returns-then-message-informed_count : goal.returns-then-message-informed_count
+returns-then-message-informed_count g c =
     let marks = g.M.Map.marks c.args.map.now in
-    let fault = message_wrong marks (length c.args.word.now) (length c.args.message.now) (λ e. c.if-message-informed-count.true (e ∙ sym c.informed-count.ensures)) in
+    let fault = message_wrong marks (length c.args.word.now) (length c.args.message.now) (λ e. c.if-message-informed_count.true (e ∙ sym c.informed_count.ensures)) in
     record {
       answer = sym (ap answer_to fault);
       message = sym (ap (λ o. in_force o (informed marks (transform (g.M.Map.exponent c.args.map.now) c.args.word.now)) c.args.message.now) fault);
       word = refl;
     }
 
-pub returns-then-word-two-to : goal.returns-then-word-two-to
-returns-then-word-two-to g c =
+pub returns-then-word-two_to : goal.returns-then-word-two_to
+returns-then-word-two_to g c =
     let marks = g.M.Map.marks c.args.map.now in
     let fault =
-    word_wrong marks (length c.args.word.now) (length c.args.message.now) (c.if-message-informed-count.false ∙ c.informed-count.ensures)
-    (λ e. c.if-word-two-to.true (e ∙ c.n-n.ensures.means.long ∙ sym c.two-to.ensures)) in
+    word_wrong marks (length c.args.word.now) (length c.args.message.now) (c.if-message-informed_count.false ∙ c.informed_count.ensures)
+    (λ e. c.if-word-two_to.true (e ∙ c.n-n.ensures.means.long ∙ sym c.two_to.ensures)) in
     record {
       answer = sym (ap answer_to fault);
       message = sym (ap (λ o. in_force o (informed marks (transform (g.M.Map.exponent c.args.map.now) c.args.word.now)) c.args.message.now) fault);
@@ -32,13 +32,13 @@ pub returns : goal.returns
 returns g c =
     let marks = g.M.Map.marks c.args.map.now in
     let n = c.n-n.result in
-    let long : length c.args.word.now ≡ 2 ^ n = c.if-word-two-to.false ∙ c.two-to.ensures in
+    let long : length c.args.word.now ≡ 2 ^ n = c.if-word-two_to.false ∙ c.two_to.ensures in
     let fault =
-    both_right marks (length c.args.word.now) (length c.args.message.now) (c.if-message-informed-count.false ∙ c.informed-count.ensures)
+    both_right marks (length c.args.word.now) (length c.args.message.now) (c.if-message-informed_count.false ∙ c.informed_count.ensures)
     (long ∙ sym c.n-n.ensures.means.long) in
     record {
       answer = sym (ap answer_to fault);
-      message = c.gather.ensures ∙ ap (informed marks) (c.transform-row.ensures ∙ ap (λ k. transform k c.args.word.now) c.n-n.ensures.value)
+      message = c.gather.ensures ∙ ap (informed marks) (c.transform_row.ensures ∙ ap (λ k. transform k c.args.word.now) c.n-n.ensures.value)
           ∙ sym (ap (λ o. in_force o (informed marks (transform (g.M.Map.exponent c.args.map.now) c.args.word.now)) c.args.message.now) fault);
-      word = c.transform-row-2.ensures ∙ ap (transform n) c.transform-row.ensures ∙ undoes_itself n c.args.word.now long;
+      word = c.transform_row-2.ensures ∙ ap (transform n) c.transform_row.ensures ∙ undoes_itself n c.args.word.now long;
     }

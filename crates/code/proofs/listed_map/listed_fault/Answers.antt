@@ -5,21 +5,21 @@ use Rattle.code.specs.declared.faults.MapFault.TheVariants.{Bit}
 use Rattle.code.proofs.Marks.{bad_exponent, bad_length, bits_asked}
 use Rattle.code.proofs.listed_map.listed_fault.Goals as goal
 
-pub returns-then-not-good-exponent : goal.returns-then-not-good-exponent
-returns-then-not-good-exponent c =
-    sym (ap answer_to (bad_exponent c.args.n c.args.bytes.now (sym c.if-not-good-exponent.ensures)))
+pub returns-then-not-good_exponent : goal.returns-then-not-good_exponent
+returns-then-not-good_exponent c =
+    sym (ap answer_to (bad_exponent c.args.n c.args.bytes.now (sym c.if-not-good_exponent.ensures)))
 
-pub returns-then-bytes-two-to : goal.returns-then-bytes-two-to
-returns-then-bytes-two-to c =
-    sym (ap answer_to (bad_length c.args.n c.args.bytes.now (sym c.if-not-good-exponent.ensures)
-    (λ e. c.if-bytes-two-to.true (e ∙ sym c.two-to.ensures))))
+pub returns-then-bytes-two_to : goal.returns-then-bytes-two_to
+returns-then-bytes-two_to c =
+    sym (ap answer_to (bad_length c.args.n c.args.bytes.now (sym c.if-not-good_exponent.ensures)
+    (λ e. c.if-bytes-two_to.true (e ∙ sym c.two_to.ensures))))
 
 pub returns-in-Some : goal.returns-in-Some
 returns-in-Some c =
-    sym (ap answer_to (bits_asked c.args.n c.args.bytes.now (sym c.if-not-good-exponent.ensures) (c.if-bytes-two-to.false ∙ c.two-to.ensures)
+    sym (ap answer_to (bits_asked c.args.n c.args.bytes.now (sym c.if-not-good_exponent.ensures) (c.if-bytes-two_to.false ∙ c.two_to.ensures)
     ∙ ap (option_map Bit) (sym c.in-Some.ensures)))
 
 pub returns-in-None : goal.returns-in-None
 returns-in-None c =
-    sym (ap answer_to (bits_asked c.args.n c.args.bytes.now (sym c.if-not-good-exponent.ensures) (c.if-bytes-two-to.false ∙ c.two-to.ensures)
+    sym (ap answer_to (bits_asked c.args.n c.args.bytes.now (sym c.if-not-good_exponent.ensures) (c.if-bytes-two_to.false ∙ c.two_to.ensures)
     ∙ ap (option_map Bit) (sym c.in-None.ensures)))

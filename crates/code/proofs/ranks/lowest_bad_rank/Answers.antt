@@ -20,8 +20,8 @@ bounds-seen-rank c = omega (arith, within_table c.args.n c.requires.small)
 pub returns-then-seen-rank : goal.returns-then-seen-rank
 returns-then-seen-rank c =
     let ranks = ranks_of c.args.bytes.now in
-    let small : c.rank-at-rank.result < 1024 = omega (arith, within_table c.args.n c.requires.small) in
-    let seen = fresh_seen c.loop-p.seen ranks c.loop-p.p _ c.rank-at-rank.ensures c.loop-p.invariant.1 small c.if-seen-rank.true in
+    let small : c.rank_at-rank.result < 1024 = omega (arith, within_table c.args.n c.requires.small) in
+    let seen = fresh_seen c.loop-p.seen ranks c.loop-p.p _ c.rank_at-rank.ensures c.loop-p.invariant.1 small c.if-seen-rank.true in
     lowest_found (fresh_rank ranks) (2 ^ c.args.n) c.loop-p.p (omega arith) seen c.loop-p.invariant.0
 
 pub bounds-seen-rank-in-loop-p : goal.bounds-seen-rank-in-loop-p
@@ -31,9 +31,9 @@ pub loop-p-preserved : goal.loop-p-preserved
 loop-p-preserved c =
     let ranks = ranks_of c.args.bytes.now in
     let long : length ranks ≡ 2 ^ c.args.n = length-ranks_of c.args.bytes.now (2 ^ c.args.n) c.requires.long in
-    let small : c.rank-at-rank.result < 1024 = omega (arith, within_table c.args.n c.requires.small) in
-    let new = fresh_new c.loop-p.seen ranks c.loop-p.p _ c.rank-at-rank.ensures c.loop-p.invariant.1 small (omega arith) c.if-seen-rank.false in (
+    let small : c.rank_at-rank.result < 1024 = omega (arith, within_table c.args.n c.requires.small) in
+    let new = fresh_new c.loop-p.seen ranks c.loop-p.p _ c.rank_at-rank.ensures c.loop-p.invariant.1 small (omega arith) c.if-seen-rank.false in (
       lowest_more (fresh_rank ranks) (2 ^ c.args.n) c.loop-p.p (omega arith) new c.loop-p.invariant.0,
-      tells_more c.loop-p.seen ranks c.loop-p.p _ c.rank-at-rank.ensures c.loop-p.invariant.1 c.loop-p.invariant.2 (omega arith),
+      tells_more c.loop-p.seen ranks c.loop-p.p _ c.rank_at-rank.ensures c.loop-p.invariant.1 c.loop-p.invariant.2 (omega arith),
       length-set c.loop-p.seen _ _ ∙ c.loop-p.invariant.2,
     )

@@ -7,21 +7,21 @@ pub returns-then-e-eq0 : goal.returns-then-e-eq0
 unfolding transform
 returns-then-e-eq0 t c = rw c.if-e-eq0.true refl
 
-pub transform-row-requires : goal.transform-row-requires
-transform-row-requires t c = (search rules, half_length c.args.e c.args.bits.now c.if-e-eq0.false c.requires)
+pub transform_row-requires : goal.transform_row-requires
+transform_row-requires t c = (search rules, half_length c.args.e c.args.bits.now c.if-e-eq0.false c.requires)
 
-pub transform-row-requires-2 : goal.transform-row-requires-2
-transform-row-requires-2 t c =
-    let start = left_half c.args.e c.args.bits.now c.if-e-eq0.false c.requires _ c.transform-row.ensures in
+pub transform_row-requires-2 : goal.transform_row-requires-2
+transform_row-requires-2 t c =
+    let start = left_half c.args.e c.args.bits.now c.if-e-eq0.false c.requires _ c.transform_row.ensures in
     (search rules, rest_length c.args.e c.args.bits.now c.if-e-eq0.false c.requires _ start)
 
-pub xor-halves-requires : goal.xor-halves-requires
-xor-halves-requires t c =
-    let start = left_half c.args.e c.args.bits.now c.if-e-eq0.false c.requires _ c.transform-row.ensures in
+pub xor_halves-requires : goal.xor_halves-requires
+xor_halves-requires t c =
+    let start = left_half c.args.e c.args.bits.now c.if-e-eq0.false c.requires _ c.transform_row.ensures in
     both_length c.args.e c.args.bits.now c.if-e-eq0.false c.requires _ _ start
-    (right_half c.args.e c.args.bits.now c.if-e-eq0.false c.requires _ _ start c.transform-row-2.ensures)
+    (right_half c.args.e c.args.bits.now c.if-e-eq0.false c.requires _ _ start c.transform_row-2.ensures)
 
 pub returns : goal.returns
 returns t c =
     row_done c.args.e c.args.bits.now c.if-e-eq0.false c.requires _ _ _
-    c.transform-row.ensures c.transform-row-2.ensures c.xor-halves.ensures
+    c.transform_row.ensures c.transform_row-2.ensures c.xor_halves.ensures

@@ -1,4 +1,4 @@
 use Rattle.code.proofs.transform.+transform_row.Given as goal
 
-abbrev pub decreases-transform-row : goal.decreases-transform-row
-decreases-transform-row l = l.e
+abbrev pub decreases-transform_row : goal.decreases-transform_row
+decreases-transform_row l = l.e

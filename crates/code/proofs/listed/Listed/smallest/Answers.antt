@@ -2,6 +2,6 @@ use Rattle.std.proofs.Common.{refl}
 use Rattle.code.specs.Spans.{listed_fault}
 use Rattle.code.proofs.listed.Listed.smallest.Goals as goal
 
-pub invariant-of-result : goal.invariant-of-result
+pub invariant_of-result : goal.invariant_of-result
 unfolding listed_fault
-invariant-of-result c = (refl, tt)
+invariant_of-result c = record { accepted = refl }
