@@ -1,4 +1,4 @@
 use Rattle.cancellation.proofs.places.+reversed_below.Given as goal
 
-abbrev pub decreases-reversed-below : goal.decreases-reversed-below
-decreases-reversed-below l = l.e
+abbrev pub decreases-reversed_below : goal.decreases-reversed_below
+decreases-reversed_below l = l.e

@@ -11,8 +11,8 @@ returns-in-Rate0 g c =
 
 pub returns-in-Rate1 : goal.returns-in-Rate1
 returns-in-Rate1 g c =
-    promised g.S.Soft.kind g.S.Soft.laws c.args.kind Rate1 c.in-Some.e c.args.values.now c.args.values.now c.args.bits.now c.write-signs.new.bits
-    c.in-Rate1.is c.in-Some.ensures.0 c.if-values-bits.false c.write-signs.ensures.written refl
+    promised g.S.Soft.kind g.S.Soft.laws c.args.kind Rate1 c.in-Some.e c.args.values.now c.args.values.now c.args.bits.now c.write_signs.new.bits
+    c.in-Rate1.is c.in-Some.ensures.0 c.if-values-bits.false c.write_signs.ensures.written refl
 
 pub returns-in-Rep : goal.returns-in-Rep
 returns-in-Rep g c =
@@ -21,13 +21,13 @@ returns-in-Rep g c =
 
 pub returns-in-Spc : goal.returns-in-Spc
 returns-in-Spc g c =
-    promised g.S.Soft.kind g.S.Soft.laws c.args.kind Spc c.in-Some.e c.args.values.now c.args.values.now c.args.bits.now c.single-parity.new.bits
-    c.in-Spc.is c.in-Some.ensures.0 c.if-values-bits.false c.single-parity.ensures refl
+    promised g.S.Soft.kind g.S.Soft.laws c.args.kind Spc c.in-Some.e c.args.values.now c.args.values.now c.args.bits.now c.single_parity.new.bits
+    c.in-Spc.is c.in-Some.ensures.0 c.if-values-bits.false c.single_parity.ensures refl
 
 pub returns-then-values-bits : goal.returns-then-values-bits
 returns-then-values-bits g c =
     refusing g.S.Soft.kind g.S.Soft.laws c.args.kind c.args.values.now c.args.bits.now (λ e h l. c.if-values-bits.true (h ∙ sym l))
 
-pub returns-in-default : goal.returns-in-default
-returns-in-default g c =
-    refusing g.S.Soft.kind g.S.Soft.laws c.args.kind c.args.values.now c.args.bits.now (λ e h l. c.in-default.ensures e h)
+pub returns-in_default : goal.returns-in_default
+returns-in_default g c =
+    refusing g.S.Soft.kind g.S.Soft.laws c.args.kind c.args.values.now c.args.bits.now (λ e h l. c.in_default.ensures e h)
