@@ -7,8 +7,8 @@ pub loop-made-init : goal.loop-made-init
 loop-made-init g c =
     (λ root place is these was. walked_start g.S.Soft.kind _ root (caps_of c.args.caps) place _ _ _ _ was, c.requires.few, omega arith, refl)
 
-pub make-step-height-requires : goal.make-step-height-requires
-make-step-height-requires g c =
+pub make_step-height-requires : goal.make_step-height-requires
+make_step-height-requires g c =
     record {
       room = record {
         soft_room = omega (arith, c.requires.room.soft_room, c.loop-made.auto.soft);
@@ -23,10 +23,10 @@ pub loop-made-preserved : goal.loop-made-preserved
 loop-made-preserved g c = (
   λ root place is these was.
       walked_step g.S.Soft.kind _ root (caps_of c.args.caps) place c.loop-made.made c.loop-made.height _ _ _ _ _ _ _ (search rules) (c.loop-made.invariant.0 root place is these was)
-      (λ nxt path opened. c.make-step-height.ensures.moves root nxt path is these opened),
-  c.make-step-height.ensures.inside.few,
+      (λ nxt path opened. c.make_step-height.ensures.moves root nxt path is these opened),
+  c.make_step-height.ensures.inside.few,
   search rules,
-  c.make-step-height.ensures.inside.beyond ∙ c.loop-made.invariant.3,
+  c.make_step-height.ensures.inside.beyond ∙ c.loop-made.invariant.3,
 )
 
 pub returns-else-height-gt0 : goal.returns-else-height-gt0

@@ -7,11 +7,11 @@ loop-i-init g c = lowest_none (λ i. is_some (g.S.Soft.kind.read (get_or c.args.
 
 pub loop-i-preserved : goal.loop-i-preserved
 loop-i-preserved g c =
-    lowest_more (λ i. is_some (g.S.Soft.kind.read (get_or c.args.bytes.now i 0))) (length c.args.bytes.now) c.loop-i.i c.loop-i-test.true (sym (ap is_some c.read.ensures) ∙ c.if-is-none.ensures) c.loop-i.invariant
+    lowest_more (λ i. is_some (g.S.Soft.kind.read (get_or c.args.bytes.now i 0))) (length c.args.bytes.now) c.loop-i.i c.loop-i-test.true (sym (ap is_some c.read.ensures) ∙ c.if-is_none.ensures) c.loop-i.invariant
 
-pub returns-then-is-none : goal.returns-then-is-none
-returns-then-is-none g c =
-    lowest_found (λ i. is_some (g.S.Soft.kind.read (get_or c.args.bytes.now i 0))) (length c.args.bytes.now) c.loop-i.i c.loop-i-test.true (sym (ap is_some c.read.ensures) ∙ c.if-is-none.ensures) c.loop-i.invariant
+pub returns-then-is_none : goal.returns-then-is_none
+returns-then-is_none g c =
+    lowest_found (λ i. is_some (g.S.Soft.kind.read (get_or c.args.bytes.now i 0))) (length c.args.bytes.now) c.loop-i.i c.loop-i-test.true (sym (ap is_some c.read.ensures) ∙ c.if-is_none.ensures) c.loop-i.invariant
 
 pub returns : goal.returns
 returns g c = lowest_all (λ i. is_some (g.S.Soft.kind.read (get_or c.args.bytes.now i 0))) (length c.args.bytes.now) c.loop-i.i c.loop-i-test.false c.loop-i.invariant

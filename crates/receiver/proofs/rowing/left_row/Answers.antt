@@ -14,7 +14,7 @@ returns g c =
     let half = c.args.half in
     let k = base + 3 * half - base in
     let long : length (take k (drop base soft)) ≡ 3 * half = length_part soft base k (omega (arith, c.requires)) ∙ (let h : k ≡ 3 * half = omega arith in h) in
-    let made = (c.check-row.ensures.done half long).1 in
+    let made = (c.check_row.ensures.done half long).1 in
     let row = check_row kind (part soft base half) (part soft (base + half) half) in
     let a = length_part soft base half (omega (arith, c.requires)) in
     let b = length_part soft (base + half) half (omega (arith, c.requires)) in

@@ -18,7 +18,7 @@ returns g c =
     let t : start + half - start ≡ half = omega arith in
     let long : length (take k (drop base soft)) ≡ 3 * half = length_part soft base k (omega (arith, c.requires.row)) ∙ (let h : k ≡ 3 * half = omega arith in h) in
     let left_long : length (take (start + half - start) (drop start bits)) ≡ half = ap (λ j. length (part bits start j)) t ∙ length_part bits start half c.requires.word in
-    let made = (c.join-row.ensures.done half (long, left_long)).1 in
+    let made = (c.join_row.ensures.done half (long, left_long)).1 in
     let left = part bits start half in
     let row = join_row kind (part soft base half) (part soft (base + half) half) left in
     let a = length_part soft base half (omega (arith, c.requires.row)) in

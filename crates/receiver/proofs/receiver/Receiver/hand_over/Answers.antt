@@ -24,18 +24,18 @@ returns g c =
     let word = c.args.word.now in
     let state = c.args.self.now.state in
     let door : take_door state (roomy n soft steps bits) (right_buffers n marks (length message) (length word)) ≡ None = search rules in
-    let right = and_parts (eqb (length message) (informed_count marks)) (eqb (length word) (2 ^ n)) (sym c.if-not-right-buffers.ensures) in
-    let size : c.length-of-size.result ≡ 2 ^ n = c.length-of-size.ensures ∙ ap (λ k. 2 ^ k) c.n.ensures.value in
-    let copied : c.copy-front.new.word ≡ take (2 ^ n) bits = c.copy-front.ensures.word ∙ ap (λ k. take k bits) size in
-    let long : length c.copy-front.new.word ≡ length marks = c.copy-front.auto.word ∙ eqb-true (length word) (2 ^ n) right.1 ∙ sym (ap (λ k. 2 ^ k) c.n.ensures.value) ∙ sym c.n.ensures.means.long in
-    let fault : message_fault marks (length c.copy-front.new.word) (length message) ≡ None = both_right marks _ _ (eqb-true (length message) (informed_count marks) right.0) long in
-    let read : c.message-of.new.message ≡ message_in n marks (take (2 ^ n) bits) =
-    c.message-of.ensures.message ∙ ap (λ o. code.in_force o (informed marks (transform n c.copy-front.new.word)) message) fault ∙ ap (λ w. informed marks (transform n w)) copied in
+    let right = and_parts (eqb (length message) (informed_count marks)) (eqb (length word) (2 ^ n)) (sym c.if-not-right_buffers.ensures) in
+    let size : c.length_of-size.result ≡ 2 ^ n = c.length_of-size.ensures ∙ ap (λ k. 2 ^ k) c.n.ensures.value in
+    let copied : c.copy_front.new.word ≡ take (2 ^ n) bits = c.copy_front.ensures.word ∙ ap (λ k. take k bits) size in
+    let long : length c.copy_front.new.word ≡ length marks = c.copy_front.auto.word ∙ eqb-true (length word) (2 ^ n) right.1 ∙ sym (ap (λ k. 2 ^ k) c.n.ensures.value) ∙ sym c.n.ensures.means.long in
+    let fault : message_fault marks (length c.copy_front.new.word) (length message) ≡ None = both_right marks _ _ (eqb-true (length message) (informed_count marks) right.0) long in
+    let read : c.message_of.new.message ≡ message_in n marks (take (2 ^ n) bits) =
+    c.message_of.ensures.message ∙ ap (λ o. code.in_force o (informed marks (transform n c.copy_front.new.word)) message) fault ∙ ap (λ w. informed marks (transform n w)) copied in
     record {
-      answer = ap Ok c.steps-kept-steps.ensures ∙ sym (ap (λ o. replied o (steps_kept state)) door);
-      word = c.message-of.ensures.word ∙ copied ∙ sym (ap (λ o. in_force o (take (2 ^ n) bits) word) door);
+      answer = ap Ok c.steps_kept-steps.ensures ∙ sym (ap (λ o. replied o (steps_kept state)) door);
+      word = c.message_of.ensures.word ∙ copied ∙ sym (ap (λ o. in_force o (take (2 ^ n) bits) word) door);
       message = read ∙ sym (ap (λ o. in_force o (message_in n marks (take (2 ^ n) bits)) message) door);
       state = search rules;
       rest = (refl, refl);
-      kept = (refl, refl, c.copy-front.ensures.bits);
+      kept = (refl, refl, c.copy_front.ensures.bits);
     }

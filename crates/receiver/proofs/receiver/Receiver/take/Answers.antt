@@ -11,7 +11,7 @@ use Rattle.receiver.proofs.receiver.Receiver.take.Goals as goal
 pub returns : goal.returns
 returns g c =
     let was = c.args.self.now in
-    let inner = c.hand-over.ensures in
+    let inner = c.hand_over.ensures in
     record {
       answer = inner.answer;
       word = inner.word;
@@ -21,7 +21,7 @@ returns g c =
       kept = inner.kept;
       law = continues g.S.Soft.kind g.S.Soft.laws _ _ _ _ _ _ _ _ _ _ _ _ _ _ _ _ tt
           (λ m agrees.
-          let done = agrees_take_call g.S.Soft.kind m _ _ was.caps was.state c.hand-over.new.self.state c.args.soft.now c.args.pending.now c.args.bits.now c.args.message.now c.args.word.now c.hand-over.new.message c.hand-over.new.word c.hand-over.result
+          let done = agrees_take_call g.S.Soft.kind m _ _ was.caps was.state c.hand_over.new.self.state c.args.soft.now c.args.pending.now c.args.bits.now c.args.message.now c.args.word.now c.hand_over.new.message c.hand_over.new.word c.hand_over.result
           agrees inner.answer inner.word inner.message inner.state in
           (done.0, same_receiver g.S.Soft.kind g.M.Map.exponent g.M.Map.marks was.map _ _ _ _ _ _ _ _ _ _ _ _ inner.rest.0 inner.rest.1 refl inner.kept.0 inner.kept.1 inner.kept.2 done.1));
     }

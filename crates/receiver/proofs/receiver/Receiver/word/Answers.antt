@@ -18,8 +18,8 @@ returns g c =
     let n = g.M.Map.exponent was.map in
     let marks = g.M.Map.marks was.map in
     let means : Means n marks = subst (λ k. Means k marks) c.n.ensures.value c.n.ensures.means in
-    let size : c.length-of-size.result ≡ 2 ^ n = c.length-of-size.ensures ∙ ap (λ k. 2 ^ k) c.n.ensures.value in
-    let fits : eqb (length c.args.bytes.now) c.length-of-size.result ≡ full_length n (length c.args.bytes.now) = ap (eqb (length c.args.bytes.now)) size in
+    let size : c.length_of-size.result ≡ 2 ^ n = c.length_of-size.ensures ∙ ap (λ k. 2 ^ k) c.n.ensures.value in
+    let fits : eqb (length c.args.bytes.now) c.length_of-size.result ≡ full_length n (length c.args.bytes.now) = ap (eqb (length c.args.bytes.now)) size in
     let taken = subst (λ b. TakenInHand kind n (word_door kind was.state b (roomy n c.args.soft.now c.args.pending.now c.args.bits.now) c.args.bytes.now) c.args.bytes.now c.args.soft.now c.begin.new.soft c.args.pending.now c.begin.new.pending c.args.bits.now c.begin.new.bits was.state c.begin.new.self.state c.begin.result) fits inner.taken in
     record {
       taken = taken;
