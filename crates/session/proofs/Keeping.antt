@@ -77,7 +77,7 @@ module _ {S : Type 0} (kind : Kind S) (s : InForce S) where
       go None = record { refused = λ f e. refl; order = refl }
       go (Some p) = chosen _ p.0 (ranked_marks (ranks_of p.1) k)
 
-  encoded_stay : (at : ℕ) (message : List ℕ) → (do_encode at message s).after ≡ s
+  pub encoded_stay : (at : ℕ) (message : List ℕ) → (do_encode at message s).after ≡ s
   encoded_stay at message = go s.receiver
     where
       replied : (o : Option MapFault) (bits : List ℕ) → (reply o bits s).after ≡ s

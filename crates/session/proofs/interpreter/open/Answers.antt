@@ -4,4 +4,4 @@ use Rattle.session.proofs.interpreter.open.Goals as goal
 
 pub returns : goal.returns
 returns c =
-    opened_whole c.args.session.now c.args.shelf.now c.in-ok-header.header (omega (arith, ltb-false)) (omega (arith, ltb-false)) (omega (arith, ltb-false)) c.in-ok-header.ensures
+    opened_whole c.args.session.now c.args.shelf.now c.in_ok-header.header (omega (arith, ltb-false)) (omega (arith, ltb-false)) (omega (arith, ltb-false)) c.in_ok-header.ensures

@@ -34,14 +34,14 @@ loop-rest-preserved g c =
     let some : 0 < length c.loop-rest.rest.now = omega (arith, ltb-false) in
     let b = c.loop-rest.invariant in
     let sizes = c.sizes.ensures b.force _ _ _ b.stands in
-    between_more g.S.Soft.kind _ _ _ _ _ _ _ _ _ _ _ _ _ b some _ _ _ _ _ _ _ _ _ (simp sizes at c.in-Ok.ensures) (c.run-answer.ensures b.force b.stands) c.in-ok-push-answer.ensures c.run-answer.auto.message c.run-answer.auto.word
+    between_more g.S.Soft.kind _ _ _ _ _ _ _ _ _ _ _ _ _ b some _ _ _ _ _ _ _ _ _ (simp sizes at c.in-Ok.ensures) (c.run-answer.ensures b.force b.stands) c.in_ok-push_answer-in-Ok.ensures c.run-answer.auto.message c.run-answer.auto.word
 
 pub returns-in-Err : goal.returns-in-Err
 returns-in-Err g c =
     let some : 0 < length c.loop-rest.rest.now = omega (arith, ltb-false) in
     let b = c.loop-rest.invariant in
     let sizes = c.sizes.ensures b.force _ _ _ b.stands in
-    going_last g.S.Soft.kind _ _ _ _ _ _ _ _ _ _ b.going some _ _ (simp sizes at c.in-Err.ensures) (simp c.report.ensures at c.in-ok-push-refusal.ensures)
+    going_last g.S.Soft.kind _ _ _ _ _ _ _ _ _ _ b.going some _ _ (simp sizes at c.in-Err.ensures) (simp c.report.ensures at c.in_ok-push_refusal-in-Err.ensures)
 
 pub returns : goal.returns
 returns g c = going_done g.S.Soft.kind _ _ _ _ _ _ _ _ _ _ c.loop-rest.invariant.going (omega (arith, ltb-true))

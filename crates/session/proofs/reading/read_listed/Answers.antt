@@ -7,6 +7,6 @@ use Rattle.session.proofs.reading.read_listed.Goals as goal
 pub returns : goal.returns
 returns c =
     let some : 0 < length c.args.bytes.now = omega (arith, ltb-false) in
-    let positions = ok_when _ _ _ _ c.in-ok-count.ensures in
-    let enough = ok_when _ _ _ _ c.in-ok-enough.ensures in
-    counted_whole c.args.at listed (λ n. 2 ^ n) c.in-ok-count.count c.args.bytes.now _ some (take_rest c.args.bytes.now 1) positions.0 positions.1 enough.0
+    let positions = ok_when _ _ _ _ c.in_ok-count.ensures in
+    let enough = ok_when _ _ _ _ c.in_ok-enough.ensures in
+    counted_whole c.args.at listed (λ n. 2 ^ n) c.in_ok-count.count c.args.bytes.now _ some (take_rest c.args.bytes.now 1) positions.0 positions.1 enough.0

@@ -4,8 +4,8 @@ use Rattle.session.proofs.Operands.{ok_when, err_when}
 use Rattle.session.proofs.Records.{record_none, record_bad, record_cut, record_whole}
 use Rattle.session.proofs.shelf.record_at.Goals as goal
 
-pub returns-in-default : goal.returns-in-default
-returns-in-default c =
+pub returns-in_default : goal.returns-in_default
+returns-in_default c =
     record_none c.args.at (drop c.args.at c.args.shelf.now) (omega (arith, ltb-true, ap length (take_rest c.args.shelf.now c.args.at)))
 
 pub returns-in-Err : goal.returns-in-Err

@@ -8,7 +8,7 @@ loop-bit-init c = bits_none _
 
 pub loop-bit-preserved : goal.loop-bit-preserved
 loop-bit-preserved c =
-    bits_more _ _ _ c.args.bits.now c.loop-bit.bit-index (omega arith) c.loop-bit.invariant (simp (← c.bit-char.ensures) c.in-ok-push.ensures.items)
+    bits_more _ _ _ c.args.bits.now c.loop-bit.bit-index (omega arith) c.loop-bit.invariant (simp (← c.bit_char.ensures) c.in_ok-push.ensures.items)
 
 pub returns : goal.returns
 returns c = rw (← take_all c.loop-bit.bit-index c.args.bits.now (omega arith)) c.loop-bit.invariant

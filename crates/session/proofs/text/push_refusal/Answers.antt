@@ -5,4 +5,4 @@ use Rattle.session.proofs.text.push_refusal.Goals as goal
 
 pub returns : goal.returns
 returns c =
-    simp (c.in-ok-push-3.ensures.items, c.in-ok-push-number-2.ensures, c.in-ok-push-2.ensures.items, c.in-ok-push-number.ensures, c.in-ok-push.ensures.items, c.in-ok-push-start.ensures, c.shown-letter.ensures) (two_fields c.args.text.now.items (line_start c.args.number (shown_letter c.args.report c.args.letter) c.args.report.number) (decimal c.args.report.layer) (decimal c.args.report.place))
+    simp (c.in_ok-push-3.ensures.items, c.in_ok-push_number-2.ensures, c.in_ok-push-2.ensures.items, c.in_ok-push_number.ensures, c.in_ok-push.ensures.items, c.in_ok-push_start.ensures, c.shown_letter.ensures) (two_fields c.args.text.now.items (line_start c.args.number (shown_letter c.args.report c.args.letter) c.args.report.number) (decimal c.args.report.layer) (decimal c.args.report.place))

@@ -3,4 +3,4 @@ use Rattle.session.proofs.text.push_start.Goals as goal
 
 pub returns : goal.returns
 returns c =
-    simp (c.in-ok-push-number-2.ensures, c.in-ok-push-3.ensures.items, c.in-ok-push-2.ensures.items, c.in-ok-push.ensures.items, c.in-ok-push-number.ensures) (start_pieces _ c.args.number c.args.letter c.args.answer)
+    simp (c.in_ok-push_number-2.ensures, c.in_ok-push-3.ensures.items, c.in_ok-push-2.ensures.items, c.in_ok-push.ensures.items, c.in_ok-push_number.ensures) (start_pieces _ c.args.number c.args.letter c.args.answer)

@@ -4,4 +4,4 @@ use Rattle.session.proofs.text.push_word.Goals as goal
 
 pub returns : goal.returns
 returns c =
-    simp (c.in-ok-push-2.ensures.items, c.in-ok-push-bits.ensures, c.in-ok-push.ensures.items, c.in-ok-push-start.ensures) (one_field c.args.text.now.items (line_start c.args.number c.args.letter 0) (bits_text c.args.word.now))
+    simp (c.in_ok-push-2.ensures.items, c.in_ok-push_bits.ensures, c.in_ok-push.ensures.items, c.in_ok-push_start.ensures) (one_field c.args.text.now.items (line_start c.args.number c.args.letter 0) (bits_text c.args.word.now))

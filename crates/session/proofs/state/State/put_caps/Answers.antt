@@ -4,11 +4,11 @@ use Rattle.session.proofs.state.State.put_caps.Goals as goal
 
 pub returns : goal.returns
 returns g c = λ s soft steps row messages words st.
-    let h = c.in-ok-set-caps.ensures in
+    let h = c.in_ok-set_caps.ensures in
     caps_did g.S.Soft.kind s _ soft steps row st _ c.args.at c.args.first c.args.second _ _ c.if-not-self.false c.if-not-self.false (refl, refl) refl h.answer h.caps h.rest
 
-pub returns-in-err-set-caps : goal.returns-in-err-set-caps
-returns-in-err-set-caps g c = λ s soft steps row messages words st.
-    let h = c.in-err-set-caps.ensures in
-    did_as g.S.Soft.kind _ _ _ _ soft steps row (handed_up _ c.in-err-set-caps.field-0.0 messages words c.from-residual.ensures.1)
-    (caps_did g.S.Soft.kind s _ soft steps row st _ c.args.at c.args.first c.args.second _ (Err c.in-err-set-caps.field-0.0) c.if-not-self.false c.if-not-self.false (refl, refl) refl h.answer h.caps h.rest)
+pub returns-in_err-set_caps : goal.returns-in_err-set_caps
+returns-in_err-set_caps g c = λ s soft steps row messages words st.
+    let h = c.in_err-set_caps.ensures in
+    did_as g.S.Soft.kind _ _ _ _ soft steps row (handed_up _ c.in_err-set_caps.field-0.0 messages words c.from_residual.ensures.1)
+    (caps_did g.S.Soft.kind s _ soft steps row st _ c.args.at c.args.first c.args.second _ (Err c.in_err-set_caps.field-0.0) c.if-not-self.false c.if-not-self.false (refl, refl) refl h.answer h.caps h.rest)
