@@ -1,10 +1,10 @@
 -- An order is accepted where its ranks are lawful, and only there.
-use Rattle.std.proofs.Common.{◌≡◌, ℕ, zero, suc, ◌+◌, ◌*◌, ◌^◌, ◌<◌, ◌≤◌, Bool, true, false, cond, not, ◌&&◌, eqb, ltb, leb, List, [], ◌∷◌, length, get_or, take, is_some, Some, None, Option, sym, refl, ap, ◌∙◌, subst, ⊎_elim, arith, length-take, get_or-take}
+use Rattle.std.proofs.Common.{◌≡◌, ℕ, zero, suc, ◌*◌, ◌^◌, ◌<◌, ◌≤◌, Bool, true, false, cond, not, eqb, ltb, leb, List, [], ◌∷◌, length, get_or, take, is_some, Some, None, Option, sym, refl, ◌∙◌, ⊎_elim, arith, length-take, get_or-take}
 use Rattle.std.proofs.lemmas.Bool.{cases_order, eq-eqb, eqb-true, ne_eqb, cond_both, and_parts, and_from, le-leb, leb-true, ltb-true, lt-ltb, not-true, not_from_false, both_ways}
 use Rattle.code.specs.declared.faults.MapFault.{MapFault}
 use Rattle.code.specs.declared.faults.MapFault.TheVariants.{Exponent, Length}
 use Rattle.code.specs.Spans.{good_exponent, lowest_no}
-use Rattle.code.specs.Orders.{ranks_of, among, fresh_rank, keeps_law, KeepsLaw, ranks_fault, order_fault, Lawful}
+use Rattle.code.specs.Orders.{ranks_of, among, fresh_rank, keeps_law, ranks_fault, order_fault, Lawful}
 use Rattle.code.proofs.Lowest.{none_fails, all_pass}
 use Rattle.code.proofs.Written.{length-ranks_of}
 use Rattle.code.proofs.Questions.{either, fault_none}

@@ -1,11 +1,10 @@
 -- What the questions about a message tell, and what an encoder has written. Assumes nothing.
-use Rattle.std.proofs.Common.{◌≡◌, ℕ, ◌^◌, List, length, is_ok, Some, None, Ok, Err, Option, sym, refl, ap, ◌∙◌}
+use Rattle.std.proofs.Common.{◌≡◌, ℕ, ◌^◌, List, length, is_ok, Some, None, Ok, Err, ap, ◌∙◌}
 use Rattle.std.specs.Option.{option_map}
 use Rattle.std.proofs.lemmas.Bool.{eq-eqb, ne_eqb, false≢true}
 use Rattle.code.specs.declared.faults.MapFault.{MapFault}
 use Rattle.code.specs.declared.faults.MapFault.TheVariants.{Bit, Buffer}
 use Rattle.code.specs.Encode.{informed_count, laid, informed, encoded, encode_fault, message_fault}
-use Rattle.code.specs.Faults.{answer_to, in_force}
 use Rattle.code.specs.Transform.{transform}
 use Rattle.code.proofs.Laying.{length_laid, informed_laid}
 use Rattle.code.proofs.Marks.{bits_of}

@@ -1,8 +1,8 @@
 -- What the questions about a list of marks tell of it. Assumes nothing.
-use Rattle.std.proofs.Common.{◌≡◌, ℕ, ◌+◌, ◌^◌, ◌<◌, ◌≤◌, Bool, true, false, cond, not, eqb, leb, List, length, get_or, is_some, is_ok, Some, None, Ok, Err, Option, sym, refl, ap, ◌∙◌, ⊎_elim, arith}
+use Rattle.std.proofs.Common.{◌≡◌, ℕ, ◌^◌, ◌≤◌, Bool, true, false, cond, eqb, leb, List, length, get_or, is_some, is_ok, Some, None, Ok, Err, Option, sym, refl, ap, ◌∙◌, ⊎_elim, arith}
 use Rattle.std.specs.Option.{option_map}
 use Rattle.std.proofs.lemmas.List.{get_or_past}
-use Rattle.std.proofs.lemmas.Bool.{eq-eqb, ne_eqb, eqb-true, eqb-false, true≢false, false≢true, lt-ltb, leb-true, and_parts, cases_lt, not-false}
+use Rattle.std.proofs.lemmas.Bool.{eq-eqb, ne_eqb, eqb-true, eqb-false, true≢false, false≢true, lt-ltb, leb-true, and_parts, cases_lt}
 use Rattle.code.specs.declared.faults.MapFault.{MapFault}
 use Rattle.code.specs.declared.faults.MapFault.TheVariants.{Exponent, Length, Bit, Outside}
 use Rattle.code.specs.Spans.{good_exponent, lowest_no, is_bit, listed_fault, mark_of, mark_answer, Means}

@@ -1,10 +1,10 @@
 -- Moves by arithmetic: the law in words of bits is the law as it is tested.
-use Rattle.std.proofs.Common.{◌≡◌, ℕ, zero, suc, ◌+◌, ◌-◌, ◌*◌, ◌/◌, ◌%◌, ◌^◌, ◌<◌, ◌≤◌, Bool, true, false, cond, ◌&&◌, eqb, ltb, ◌⊎◌, List, get_or, sym, refl, ap, ◌∙◌, subst, inl, inr, ⊎_elim, mul-le-mul_right, add-mul, one-mul, div-mul-le_self, div-one, add-one, arith, pow_mono}
+use Rattle.std.proofs.Common.{◌≡◌, ℕ, zero, suc, ◌+◌, ◌-◌, ◌*◌, ◌/◌, ◌%◌, ◌^◌, ◌<◌, ◌≤◌, Bool, true, false, cond, eqb, List, get_or, sym, refl, ap, ◌∙◌, subst, inl, inr, ⊎_elim, mul-le-mul_right, add-mul, one-mul, div-mul-le_self, div-one, add-one, arith, pow_mono}
 use native.Mathlib.Nat.{mod-le}
 use lib.Arith.{digits_lt}
 use Rattle.std.proofs.lemmas.Nat.{pow_pos, pow-add, shr-shr, shr_below, div_below, div-add-mod', mod_below, mod-pow-add}
 use Rattle.std.proofs.lemmas.Bool.{cases_lt, cases_Bool, cases_eq, both_ways, and_parts, and_from, cond_both, cond-true, ltb-true, lt-ltb, eq-eqb, eqb-true}
-use Rattle.code.specs.Orders.{bit_at, Move, KeepsLaw, exchange_keeps, exchanges_keep, setting_keeps, keeps_law, LawAsTested}
+use Rattle.code.specs.Orders.{bit_at, KeepsLaw, exchange_keeps, exchanges_keep, setting_keeps, keeps_law, LawAsTested}
 
 two_pow_more : (b : ℕ) → 2 ^ (b + 1) ≡ 2 * 2 ^ b
 two_pow_more b = let e : 2 ^ (b + 1) ≡ 2 ^ b * 2 = pow-add 2 b 1 in omega arith

@@ -1,5 +1,5 @@
 -- The questions about an order, one after another.
-use Rattle.std.proofs.Common.{◌≡◌, ℕ, ◌*◌, ◌^◌, Bool, true, false, eqb, List, length, Some, None, Option, sym, refl, ap, ◌∙◌}
+use Rattle.std.proofs.Common.{◌≡◌, ℕ, ◌*◌, ◌^◌, true, false, List, length, Some, None, Option, sym, ap, ◌∙◌}
 use Rattle.std.proofs.lemmas.Bool.{eq-eqb, ne_eqb}
 use Rattle.code.specs.declared.faults.MapFault.{MapFault}
 use Rattle.code.specs.declared.faults.MapFault.TheVariants.{Exponent, Length, Rank, Law}

@@ -1,10 +1,10 @@
 -- What the recursion on both halves of a row leaves in it. Assumes nothing.
-use Rattle.std.proofs.Common.{◌≡◌, ℕ, zero, suc, ◌+◌, ◌-◌, ◌/◌, ◌^◌, ◌<◌, ◌≤◌, List, [], ◌∷◌, ◌++◌, length, take, drop, sym, refl, ap, ◌∙◌, subst, ap₂, arith}
+use Rattle.std.proofs.Common.{◌≡◌, ℕ, zero, suc, ◌+◌, ◌-◌, ◌/◌, ◌^◌, List, [], ◌++◌, length, take, drop, sym, refl, ap, ◌∙◌, ap₂, arith}
 use native.Mathlib.Nat.{two-pow-succ}
 use borrow.Rule.Slice.PartMut.{put_mid, post_of}
 use Rattle.std.proofs.lemmas.List.{length-take, length-drop, length-append, take_at, drop_at, take_all, drop_all, append-nil}
 use Rattle.code.specs.Transform.{join_halves, transform}
-use Rattle.code.proofs.Transforms.{keeps_length, left_length, right_length}
+use Rattle.code.proofs.Transforms.{keeps_length}
 
 -- half of a row of 2 ^ e, e not 0
 pub half_pow : (e n : ℕ) → (e ≡ 0 → ⊥) → n ≡ 2 ^ e → n / 2 ≡ 2 ^ (e - 1)

@@ -1,8 +1,8 @@
 -- Orders and the ranked maps made from them: cited by `Order` and `Ranked`. Assumes nothing.
-use Rattle.std.specs.Prelude.{◌≡◌, ℕ, zero, suc, ◌+◌, ◌-◌, ◌*◌, ◌/◌, ◌%◌, ◌^◌, ◌<◌, ◌≤◌, Bool, true, false, cond, not, ◌&&◌, ◌⊎◌, List, [], ◌∷◌, ◌++◌, map, length, take, Some, None, Ok, Err, Option, Result, ◌==◌, nat_le, nat_lt, slice_index}
+use Rattle.std.specs.Prelude.{◌≡◌, ℕ, zero, suc, ◌+◌, ◌-◌, ◌*◌, ◌/◌, ◌%◌, ◌^◌, ◌<◌, ◌≤◌, Bool, true, false, cond, not, ◌&&◌, ◌⊎◌, List, [], ◌∷◌, map, length, take, Some, None, Ok, Err, Option, Result, ◌==◌, nat_le, nat_lt, slice_index}
 use Rattle.code.specs.declared.faults.MapFault.{MapFault}
 use Rattle.code.specs.declared.faults.MapFault.TheVariants.{Exponent, Length, Rank, Law, Count, Outside}
-use Rattle.code.specs.Spans.{good_exponent, lowest_no, part, kind_of}
+use Rattle.code.specs.Spans.{good_exponent, lowest_no}
 
 -- ranks as they are written: two bytes each, the high byte first
 unfoldable pub ranks_of : List ℕ → List ℕ

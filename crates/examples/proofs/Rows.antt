@@ -1,5 +1,5 @@
 -- The rows of the table of worked examples, each proved by computing. Assumes nothing.
-use Rattle.std.proofs.Common.{◌≡◌, refl}
+use Rattle.std.proofs.Common.{refl}
 use Rattle.code.specs.Orders.{ranks_of, keeps_law, ranks_fault, order_fault, ranked_marks}
 use Rattle.code.specs.Spans.{kind_of, power_up_to}
 use Rattle.code.specs.Transform.{transform}

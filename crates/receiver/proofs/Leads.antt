@@ -2,14 +2,13 @@
 use Rattle.std.proofs.Common.{◌≡◌, ℕ, List, [], ◌∷◌, ◌++◌, Some, None, Option, sym, refl, ap, ◌∙◌, subst}
 use Rattle.receiver.specs.declared.faults.ReceiverFault.{ReceiverFault}
 use Rattle.receiver.specs.Admissions.{in_force}
-use Rattle.code.specs.Spans.{Means}
 use Rattle.soft.specs.Kind.{Kind, Laws}
 use Rattle.receiver.specs.declared.caps.Caps.{Caps as Kept}
 use Rattle.receiver.specs.declared.memory.Step.{Step}
 use Rattle.receiver.specs.declared.states.State.{State}
 use Rattle.receiver.specs.Agreement.{Agrees}
 use Rattle.receiver.specs.Calls.{Call, Answer, called, answers_to}
-use Rattle.receiver.specs.Histories.{after_calls, Led, Continues}
+use Rattle.receiver.specs.Histories.{after_calls, Continues}
 use Rattle.receiver.specs.Law.{Law, Mapped, AllMapped}
 use Rattle.receiver.specs.Model.{Model, fresh}
 use Rattle.receiver.proofs.Runs.{law_holds}

@@ -1,7 +1,6 @@
 -- Each step, from what its functions promise to where the work then stands. Assumes nothing.
-use Rattle.std.proofs.Common.{◌≡◌, ℕ, zero, suc, ◌+◌, ◌-◌, ◌*◌, ◌^◌, ◌<◌, ◌≤◌, Bool, true, false, cond, List, [], ◌∷◌, ◌++◌, length, take, drop, set, Some, None, Ok, Err, Option, Result, sym, refl, ap, ◌∙◌, subst, ap₂, arith}
-use Rattle.std.proofs.lemmas.List.{length-append, take_more_set, take-set, length-set, length-take, take-take, take-set-le, drop-take, take_at, drop_at, take_all, length-drop}
-use Rattle.std.proofs.lemmas.Bool.{true≢false}
+use Rattle.std.proofs.Common.{◌≡◌, ℕ, suc, ◌+◌, ◌-◌, ◌*◌, ◌^◌, ◌<◌, ◌≤◌, cond, List, [], ◌∷◌, ◌++◌, length, take, drop, set, Some, None, Ok, Err, Option, Result, sym, refl, ap, ◌∙◌, subst, ap₂, arith}
+use Rattle.std.proofs.lemmas.List.{take_more_set, length-set, take_at, drop_at, take_all, length-drop}
 use Rattle.code.specs.declared.kinds.SpanKind.{SpanKind}
 use Rattle.code.specs.declared.faults.MapFault.{MapFault}
 use Rattle.code.specs.Spans.{kind_of, pattern, part, kind_answer, Means}
@@ -11,14 +10,14 @@ use Rattle.cancellation.specs.Rows.{check_row, join_row}
 use Rattle.cancellation.specs.Cancel.{cancel}
 use Rattle.receiver.specs.declared.memory.Step.{Step}
 use Rattle.receiver.specs.declared.memory.Next.TheVariants as next
-use Rattle.receiver.specs.Coherence.{kept, pending_of, around, Open, Closed, Coherent}
+use Rattle.receiver.specs.Coherence.{kept, pending_of, around, Open, Coherent}
 use Rattle.receiver.specs.Stacks.{overwritten, top_of}
 use Rattle.receiver.specs.Steps.{settled_by}
-use Rattle.receiver.specs.Work.{Caps, Span, Root, Side, left, right, Next, first, second, final, Place, at, finished, half, settled, word_of, left_of, right_of, span_at, rows, before, after, within, done, stepped}
+use Rattle.receiver.specs.Work.{Caps, Span, Root, Side, left, right, Next, first, second, final, at, half, word_of, left_of, right_of, span_at, rows, done, stepped}
 use Rattle.receiver.proofs.Places.{split_pow, full_left, full_right, length_word, word_split}
-use Rattle.receiver.proofs.Paths.{path_e, path_full, path_start, rows_length, before_length}
+use Rattle.receiver.proofs.Paths.{path_e, path_full, path_start, rows_length}
 use Rattle.receiver.proofs.Overwrites.{take_front}
-use Rattle.receiver.proofs.PartWrites.{part_first, part_second, length_part}
+use Rattle.receiver.proofs.PartWrites.{part_first, part_second}
 use Rattle.receiver.proofs.SpansAsked.{kind_marks, path_kind, path_settled, path_split}
 use Rattle.receiver.proofs.Counts.{unsettled_some}
 use Rattle.receiver.proofs.Tops.{top_known}

@@ -1,6 +1,6 @@
 -- What a write to a part of a list leaves. Assumes nothing.
-use Rattle.std.proofs.Common.{◌≡◌, ℕ, zero, suc, ◌+◌, ◌-◌, ◌<◌, ◌≤◌, List, [], ◌∷◌, ◌++◌, length, take, drop, set, sym, refl, ap, ◌∙◌, ap₂, append_assoc, suc-add, zero-add, arith, take-append-drop}
-use Rattle.std.proofs.lemmas.List.{length-append, length-take, length-drop, take-take, take_at, drop_at, take-append-le, drop-append-le, drop-drop, drop-take, take_all, length-take-le, take_more_set, take-set, append-nil}
+use Rattle.std.proofs.Common.{◌≡◌, ℕ, ◌+◌, ◌-◌, ◌≤◌, List, [], ◌∷◌, ◌++◌, length, take, drop, sym, ap, ◌∙◌, ap₂, append_assoc, suc-add, zero-add, arith}
+use Rattle.std.proofs.lemmas.List.{length-append, length-take, length-drop, take-take, take_at, drop_at, take-append-le, drop-drop, drop-take, length-take-le}
 use Rattle.code.specs.Spans.{part}
 use Rattle.receiver.specs.Stacks.{overwritten}
 

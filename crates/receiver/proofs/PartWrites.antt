@@ -1,7 +1,7 @@
 -- A part of memory that was lent and written, as the memory after it. Assumes nothing.
-use Rattle.std.proofs.Common.{◌≡◌, ℕ, zero, suc, ◌+◌, ◌-◌, ◌*◌, ◌<◌, ◌≤◌, List, [], ◌∷◌, ◌++◌, length, take, drop, sym, refl, ap, ◌∙◌, ap₂, append_assoc, arith, take-append-drop}
+use Rattle.std.proofs.Common.{◌≡◌, ℕ, ◌+◌, ◌-◌, ◌≤◌, List, ◌++◌, length, take, drop, sym, ap, ◌∙◌, append_assoc, arith, take-append-drop}
 use borrow.Rule.Slice.PartMut.{put_mid, post_of}
-use Rattle.std.proofs.lemmas.List.{length-append, length-take, length-drop, take-take, drop-drop, drop-take, length-take-le}
+use Rattle.std.proofs.lemmas.List.{length-drop, take-take, drop-drop, drop-take, length-take-le}
 use Rattle.code.specs.Spans.{part}
 use Rattle.receiver.specs.Stacks.{overwritten}
 use Rattle.receiver.proofs.Overwrites.{take_beyond}

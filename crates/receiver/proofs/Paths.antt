@@ -1,11 +1,11 @@
 -- The spans along a path from the whole word: their exponents, marks, starts and rows. Assumes nothing.
-use Rattle.std.proofs.Common.{◌≡◌, ℕ, zero, suc, ◌+◌, ◌-◌, ◌*◌, ◌/◌, ◌%◌, ◌^◌, ◌<◌, ◌≤◌, Bool, true, false, cond, List, [], ◌∷◌, ◌++◌, length, take, drop, replicate, sym, refl, ap, ◌∙◌, subst, ap₂, append_assoc, mul_assoc, add-mul, one-mul, zero-mul, mul-add, arith}
-use Rattle.std.proofs.lemmas.List.{length-append, length-take, length-drop, length-replicate, append-nil, take-take, take_all, drop-drop, drop-take}
+use Rattle.std.proofs.Common.{◌≡◌, ℕ, ◌+◌, ◌-◌, ◌*◌, ◌^◌, ◌≤◌, List, [], ◌∷◌, length, take, drop, replicate, sym, ap, ◌∙◌, ap₂, mul_assoc, add-mul, one-mul, zero-mul, mul-add, arith}
+use Rattle.std.proofs.lemmas.List.{length-append, length-replicate, take-take, take_all, drop-drop, drop-take}
 use Rattle.soft.specs.Kind.{Kind}
 use Rattle.code.specs.Spans.{part}
-use Rattle.receiver.specs.Work.{Caps, Span, Full, Root, Side, left, right, Next, first, second, final, Place, at, finished}
-use Rattle.receiver.specs.Work.{half, word_of, left_of, right_of, half_of, span_at, rows, before, after, within, bits_at, done}
-use Rattle.receiver.proofs.Places.{split_pow, full_left, full_right, length_word, take_half, drop_half}
+use Rattle.receiver.specs.Work.{Span, Full, Root, Side, left, right}
+use Rattle.receiver.specs.Work.{half, word_of, left_of, right_of, span_at, rows, before, after}
+use Rattle.receiver.proofs.Places.{split_pow, full_left, full_right, length_word}
 
 twice_times : (q h : ℕ) → q * (h + h) ≡ 2 * q * h
 twice_times q h = omega (arith, mul-add q h h, mul_assoc 2 q h)

@@ -1,15 +1,14 @@
 -- Laws of the places of the work: lengths, starts, and what one step does to rows and bits. Assumes nothing.
-use Rattle.std.proofs.Common.{◌≡◌, ℕ, zero, suc, ◌+◌, ◌-◌, ◌*◌, ◌^◌, ◌<◌, ◌≤◌, Bool, true, false, cond, List, [], ◌∷◌, ◌++◌, length, take, drop, replicate, sym, refl, ap, ◌∙◌, ap₂, append_assoc, arith, pow_pos}
+use Rattle.std.proofs.Common.{◌≡◌, ℕ, zero, suc, ◌+◌, ◌-◌, ◌^◌, List, [], ◌∷◌, ◌++◌, length, take, drop, replicate, sym, refl, ap, ◌∙◌, append_assoc, arith}
 use native.Mathlib.Nat.{two-pow-succ}
-use Rattle.std.proofs.lemmas.List.{length-append, length-take, length-drop, length-replicate, append-nil}
+use Rattle.std.proofs.lemmas.List.{length-append, length-take, length-drop, append-nil}
 use Rattle.soft.specs.Kind.{Kind}
 use Rattle.code.specs.Transform.{xor_row, join_halves}
-use Rattle.code.specs.Spans.{part}
-use Rattle.cancellation.specs.Rows.{check_row, join_row, left_values, right_values}
-use Rattle.cancellation.specs.Cancel.{decided, cancel}
+use Rattle.cancellation.specs.Rows.{left_values, right_values}
+use Rattle.cancellation.specs.Cancel.{cancel}
 use Rattle.cancellation.proofs.Combined.{length-check_row, length-join_row}
-use Rattle.receiver.specs.Work.{Caps, Span, Full, Side, left, right, Next, first, second, final, Place, at, finished}
-use Rattle.receiver.specs.Work.{half, word_of, left_of, right_of, half_of, span_at, rows, before, after, within, bits_at, done, settled, stepped}
+use Rattle.receiver.specs.Work.{Span, Full, Side, left, right}
+use Rattle.receiver.specs.Work.{half, word_of, left_of, right_of, span_at, before, after, bits_at, done}
 
 length_xor : (xs ys : List ℕ) → length xs ≡ length ys → length (xor_row xs ys) ≡ length xs
 length_xor [] ys e = refl

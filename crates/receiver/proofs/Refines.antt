@@ -1,5 +1,5 @@
 -- Each call of a receiver that is as a model says answers as the model does, and leaves the receiver as the model then says. Assumes nothing.
-use Rattle.std.proofs.Common.{◌≡◌, ℕ, zero, suc, ◌+◌, ◌-◌, ◌*◌, ◌^◌, ◌<◌, ◌≤◌, min, Bool, true, false, cond, not, ◌&&◌, eqb, leb, List, [], ◌∷◌, ◌++◌, length, get_or, take, drop, replicate, is_some, Some, None, Ok, Err, Option, Result, sym, refl, ap, ◌∙◌, subst, ap₂, add-zero, arith, pow_mono}
+use Rattle.std.proofs.Common.{◌≡◌, ℕ, zero, suc, ◌+◌, ◌-◌, ◌^◌, ◌≤◌, min, Bool, true, false, cond, not, eqb, leb, List, [], ◌∷◌, ◌++◌, length, get_or, take, drop, replicate, is_some, Some, None, Ok, Option, Result, sym, refl, ap, ◌∙◌, subst, ap₂, add-zero, arith, pow_mono}
 use Rattle.std.proofs.lemmas.List.{take_at, append-nil, length-replicate}
 use Rattle.std.proofs.lemmas.Bool.{ne_eqb, eqb-true, leb-true, and_parts}
 use Rattle.std.specs.Option.{option_map}
@@ -7,7 +7,7 @@ use Rattle.code.specs.Spans.{lowest_no, Means}
 use Rattle.soft.specs.Kind.{Kind}
 use Rattle.receiver.specs.declared.caps.Caps.{Caps as Kept}
 use Rattle.receiver.specs.declared.faults.ReceiverFault.{ReceiverFault}
-use Rattle.receiver.specs.declared.faults.ReceiverFault.TheVariants.{Length, Memory, WordInHand, NoWord, Unfinished, Cap, Byte}
+use Rattle.receiver.specs.declared.faults.ReceiverFault.TheVariants.{Length, Memory, WordInHand, NoWord, Unfinished, Byte}
 use Rattle.receiver.specs.declared.memory.Next.TheVariants as next
 use Rattle.receiver.specs.declared.memory.Step.{Step}
 use Rattle.receiver.specs.declared.states.State.{State}
@@ -15,16 +15,16 @@ use Rattle.receiver.specs.declared.states.State.TheVariants.{Idle, Working, Fini
 use Rattle.receiver.specs.declared.states.Asked.{Asked}
 use Rattle.receiver.specs.declared.states.Asked.TheVariants.{Remap, Word, Advance, Take, Drop}
 use Rattle.receiver.specs.Admissions.{admitted, replied, in_force}
-use Rattle.receiver.specs.Agreement.{roomy, kept_at, Holds, HoldsHand, Agrees}
+use Rattle.receiver.specs.Agreement.{roomy, kept_at, HoldsHand, Agrees}
 use Rattle.receiver.specs.Bounds.{remaining}
-use Rattle.receiver.specs.Calls.{Call, Answer, refused, done, went, took, Outcome, outcome, called}
+use Rattle.receiver.specs.Calls.{Call, done, took, outcome, called}
 use Rattle.receiver.specs.Capping.{caps_of}
-use Rattle.receiver.specs.Coherence.{Open, Closed, Coherent}
+use Rattle.receiver.specs.Coherence.{Closed, Coherent}
 use Rattle.receiver.specs.Histories.{plain, went_to, taken_as}
 use Rattle.receiver.specs.Model
 use Rattle.receiver.specs.Model.{Hand, Model, fresh, remap_fault, caps_fault, drop_fault, take_fault, take_fault_at, advance_fault, capped, remapped, ended}
 use Rattle.receiver.specs.Words.{or_else, word_door, TakenInHand, advance_door, take_door, steps_kept, kept_after, Goes}
-use Rattle.receiver.specs.Work.{Caps, Span, Root, Next, Side, Place, at, finished, stepped, walked, made_of, word_of}
+use Rattle.receiver.specs.Work.{Caps, Span, Place, at, finished, stepped, walked, made_of, word_of}
 use Rattle.receiver.proofs.Counts.{remaining_step}
 use Rattle.receiver.proofs.Walks.{walked_end, made_end}
 use Rattle.receiver.proofs.Loads.{length_values}

@@ -1,5 +1,5 @@
 -- Memory that was found large enough. Assumes nothing.
-use Rattle.std.proofs.Common.{◌≡◌, ℕ, ◌*◌, ◌^◌, ◌≤◌, Bool, true, false, T, leb, List, length, sym, subst}
+use Rattle.std.proofs.Common.{◌≡◌, ℕ, ◌*◌, ◌^◌, Bool, true, false, T, leb, List, length, sym, subst}
 use Rattle.std.proofs.lemmas.Bool.{and_parts, leb-true}
 use Rattle.receiver.specs.declared.memory.Step.{Step}
 use Rattle.receiver.specs.Agreement.{roomy}

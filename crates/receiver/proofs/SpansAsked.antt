@@ -1,10 +1,9 @@
 -- What the map answers of the spans along a path. Assumes nothing.
-use Rattle.std.proofs.Common.{◌≡◌, ℕ, zero, suc, ◌+◌, ◌-◌, ◌*◌, ◌%◌, ◌^◌, ◌<◌, ◌≤◌, Bool, true, false, cond, ◌&&◌, ◌||◌, eqb, leb, ◌⊎◌, List, [], ◌∷◌, ◌++◌, length, get_or, take, drop, replicate, Some, None, Ok, Err, Option, sym, refl, ap, ◌∙◌, ap₂, inl, inr, ⊎_elim, arith}
+use Rattle.std.proofs.Common.{◌≡◌, ℕ, zero, suc, ◌+◌, ◌%◌, ◌^◌, ◌≤◌, Bool, true, false, cond, ◌||◌, eqb, List, [], ◌∷◌, length, get_or, drop, Some, None, Ok, Err, Option, sym, refl, ap, ◌∙◌, ⊎_elim, arith}
 use native.Mathlib.Nat.{mul-mod_left}
-use Rattle.std.proofs.lemmas.Bool.{cases_eq, eq-eqb, eqb-true, ne_eqb, le-leb, or_left, or_right, and_from, and_parts, true≢false}
+use Rattle.std.proofs.lemmas.Bool.{cases_eq, eq-eqb, ne_eqb, le-leb, or_left, or_right, and_from}
 use Rattle.std.proofs.lemmas.List.{get_or-take, get_or-drop}
 use Rattle.code.specs.declared.kinds.SpanKind.{SpanKind}
-use Rattle.code.specs.declared.kinds.SpanKind.TheVariants.{Rate0, Rate1, Rep, Spc}
 use Rattle.code.specs.declared.faults.MapFault.TheVariants.{Outside}
 use Rattle.code.specs.Spans.{same, pattern, kinds, first_fit, kind_of, part, power_up_to, is_span, kind_answer, Means}
 use Rattle.code.proofs.KindPatterns.{eq_from_same}

@@ -1,18 +1,16 @@
 -- What each step does to the work memory, as long as the memory says where the work stands. Assumes nothing.
-use Rattle.std.proofs.Common.{◌≡◌, ℕ, zero, suc, ◌+◌, ◌-◌, ◌*◌, ◌^◌, ◌<◌, ◌≤◌, List, [], ◌∷◌, ◌++◌, length, take, drop, set, replicate, sym, refl, ap, ◌∙◌, subst, ap₂, append_assoc, arith}
-use Rattle.std.proofs.lemmas.List.{length-append, length-take, length-replicate, take-take, take_at, take-append-le, replicate-append-replicate, length_push, append-nil}
+use Rattle.std.proofs.Common.{◌≡◌, ℕ, suc, ◌-◌, ◌*◌, ◌^◌, ◌≤◌, List, [], ◌∷◌, ◌++◌, length, take, replicate, sym, refl, ap, ◌∙◌, append_assoc, arith}
+use Rattle.std.proofs.lemmas.List.{length-append, length-replicate, take_at, replicate-append-replicate, length_push, append-nil}
 use Rattle.soft.specs.Kind.{Kind}
-use Rattle.code.specs.Transform.{join_halves}
 use Rattle.code.specs.Spans.{part}
-use Rattle.cancellation.specs.Rows.{left_values, right_values}
 use Rattle.receiver.specs.declared.memory.Step.{Step}
 use Rattle.receiver.specs.Stacks.{overwritten}
-use Rattle.receiver.specs.Coherence.{Splits, pending_of, around, Open, Closed, Coherent}
-use Rattle.receiver.specs.Work.{Caps, Span, Full, Root, Side, left, right, Next, first, second, final, Place, at, finished}
-use Rattle.receiver.specs.Work.{half, word_of, left_of, right_of, half_of, span_at, rows, before, after, within, bits_at, done}
-use Rattle.receiver.proofs.Places.{split_pow, full_left, full_right, length_word, done_bits, word_split}
-use Rattle.receiver.proofs.Paths.{path_e, path_full, path_some, path_start, rows_length, before_length, after_length}
-use Rattle.receiver.proofs.Overwrites.{take_front, known_overwritten, take_extended, part_known, take_overwritten}
+use Rattle.receiver.specs.Coherence.{Splits, pending_of, around, Open, Coherent}
+use Rattle.receiver.specs.Work.{Span, Root, Side, left, right, Next, first, second, final}
+use Rattle.receiver.specs.Work.{half, word_of, left_of, right_of, span_at, rows, before, after, within, done}
+use Rattle.receiver.proofs.Places.{split_pow, full_left, full_right, length_word, done_bits}
+use Rattle.receiver.proofs.Paths.{path_e, path_full, path_some, path_start, rows_length, before_length}
+use Rattle.receiver.proofs.Overwrites.{take_front, known_overwritten, take_extended, part_known}
 
 -- where the row of an open span of 2 ^ e begins in soft memory
 abbrev pub base : ℕ → ℕ → ℕ

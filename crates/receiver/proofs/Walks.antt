@@ -1,8 +1,8 @@
 -- Steps made one after the other. Assumes nothing.
-use Rattle.std.proofs.Common.{◌≡◌, ℕ, zero, suc, ◌+◌, ◌-◌, ◌<◌, ◌≤◌, List, sym, refl, ap, ◌∙◌, subst, ap₂, add-zero, suc-add, zero-add, arith}
+use Rattle.std.proofs.Common.{◌≡◌, ℕ, zero, suc, ◌+◌, ◌-◌, ◌<◌, ◌≤◌, List, sym, refl, ap, ◌∙◌, subst, add-zero, suc-add, zero-add, arith}
 use Rattle.soft.specs.Kind.{Kind}
 use Rattle.receiver.specs.declared.memory.Step.{Step}
-use Rattle.receiver.specs.Coherence.{Open, Closed, Coherent}
+use Rattle.receiver.specs.Coherence.{Open, Coherent}
 use Rattle.receiver.specs.Work.{Caps, Span, Side, Next, Place, at, finished, stepped, walked, made_of}
 
 module _ {S : Type 0} (kind : Kind S) (root : Span S) (caps : Caps) where

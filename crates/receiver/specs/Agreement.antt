@@ -1,5 +1,5 @@
 -- When a receiver and its memory are as a model says: cited by the contracts of the receiver's calls. Assumes nothing.
-use Rattle.std.specs.Prelude.{◌≡◌, ℕ, ◌+◌, ◌*◌, ◌^◌, ◌≤◌, Bool, cond, ◌&&◌, List, length, Some, None, Option, nat_le}
+use Rattle.std.specs.Prelude.{◌≡◌, ℕ, ◌+◌, ◌*◌, ◌^◌, ◌≤◌, Bool, ◌&&◌, List, length, Some, None, Option, nat_le}
 use Rattle.soft.specs.Kind.{Kind}
 use Rattle.receiver.specs.declared.caps.Caps.{Caps as Kept}
 use Rattle.receiver.specs.declared.memory.Step.{Step}
@@ -9,7 +9,7 @@ use Rattle.receiver.specs.Bounds.{remaining}
 use Rattle.receiver.specs.Capping.{caps_of}
 use Rattle.receiver.specs.Coherence.{Coherent}
 use Rattle.receiver.specs.Model.{Hand, Model}
-use Rattle.receiver.specs.Work.{Span, Root, Place, at, finished}
+use Rattle.receiver.specs.Work.{Root, Place, at, finished}
 
 -- are these many soft numbers, pending steps and bits enough for 2 ^ n positions
 abbrev pub room_for : ℕ → ℕ → ℕ → ℕ → Bool

@@ -1,5 +1,5 @@
 -- What one step does to the work memory: cited by the functions that make steps. Assumes nothing.
-use Rattle.std.specs.Prelude.{◌≡◌, ℕ, suc, ◌+◌, ◌-◌, ◌*◌, ◌^◌, ◌<◌, ◌≤◌, cond, ◌||◌, List, length, drop, set, Some, None, Option, ◌==◌, ◌≢◌}
+use Rattle.std.specs.Prelude.{◌≡◌, ℕ, ◌+◌, ◌-◌, ◌*◌, ◌^◌, ◌<◌, ◌≤◌, cond, ◌||◌, List, length, drop, set, Some, None, Option, ◌==◌, ◌≢◌}
 use Rattle.code.specs.declared.kinds.SpanKind.{SpanKind}
 use Rattle.soft.specs.Kind.{Kind}
 use Rattle.code.specs.Spans.{part}

@@ -1,5 +1,5 @@
 -- What word, advance and take do to the receiver, the memory and the buffers, whatever the memory holds: cited by those calls. Assumes nothing.
-use Rattle.std.specs.Prelude.{◌≡◌, ℕ, zero, suc, ◌+◌, ◌-◌, ◌*◌, ◌^◌, ◌≤◌, min, Bool, true, cond, not, List, [], ◌∷◌, ◌++◌, length, take, drop, replicate, is_some, is_ok, Some, None, Ok, Err, Option, Result, ◌==◌, slice_index}
+use Rattle.std.specs.Prelude.{◌≡◌, ℕ, zero, suc, ◌+◌, ◌-◌, ◌^◌, ◌≤◌, min, Bool, true, cond, not, List, [], ◌∷◌, ◌++◌, length, take, drop, replicate, is_some, Some, None, Ok, Err, Option, Result, ◌==◌, slice_index}
 use Rattle.std.specs.Option.{option_map}
 use Rattle.code.specs.Spans.{lowest_no}
 use Rattle.soft.specs.Kind.{Kind}

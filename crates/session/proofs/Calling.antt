@@ -1,5 +1,5 @@
 -- What the receiver's calls do to the state of a session, over plain values.
-use Rattle.std.proofs.Common.{◌≡◌, ℕ, suc, ◌*◌, ◌^◌, ◌≤◌, Bool, true, false, cond, ◌&&◌, eqb, leb, List, [], ◌∷◌, ◌++◌, length, take, IsErrAnd, Some, None, Ok, Err, decimal, Option, Result, sym, refl, ap, ◌∙◌, subst, ap₂, arith, pow_mono}
+use Rattle.std.proofs.Common.{◌≡◌, ℕ, suc, ◌*◌, ◌^◌, ◌≤◌, Bool, true, false, cond, eqb, leb, List, [], ◌∷◌, length, take, IsErrAnd, Some, None, Ok, Err, decimal, Option, Result, sym, refl, ap, ◌∙◌, subst, arith, pow_mono}
 use Rattle.std.proofs.lemmas.Bool.{le-leb, leb-true, eqb-true, eq-eqb, and_from, and_parts}
 use Rattle.code.specs.Encode.{informed_count}
 use Rattle.code.specs.Spans.{Means}
@@ -30,7 +30,7 @@ use Rattle.session.specs.declared.faults.SessionFault.TheVariants as fault
 use Rattle.session.specs.declared.state.State.{State}
 use Rattle.session.specs.declared.state.Answer.{Answer}
 use Rattle.session.specs.Chosen.{exponent_of, marks_of}
-use Rattle.session.specs.Sessions.{InForce, Done, told, choose, do_call, do_caps, do_drop, do_word, do_short_word, do_advance, do_take}
+use Rattle.session.specs.Sessions.{InForce, Done, told, choose, do_call, do_caps, do_drop, do_advance, do_take}
 use Rattle.session.specs.States.{Room, Stands, answer_of, Did}
 use Rattle.session.proofs.Doing.{SameOrder, Agreed, call_did, map_did, map_refused}
 

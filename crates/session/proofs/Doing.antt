@@ -1,5 +1,5 @@
 -- What commands do to the state of a session, over plain values.
-use Rattle.std.proofs.Common.{◌≡◌, ℕ, ◌^◌, ◌≤◌, Bool, true, false, cond, List, [], ◌∷◌, ◌++◌, length, take, Some, None, Ok, Err, decimal, Option, Result, sym, refl, ap, ◌∙◌, subst, arith}
+use Rattle.std.proofs.Common.{◌≡◌, ℕ, Bool, true, false, List, [], ◌∷◌, ◌++◌, length, take, Some, None, Ok, Err, decimal, Option, Result, sym, refl, ap, ◌∙◌, subst, arith}
 use Rattle.std.proofs.lemmas.List.{take_at}
 use Rattle.code.specs.declared.faults.MapFault.{MapFault}
 use Rattle.code.specs.Encode.{informed_count, encode_fault, encoded}
@@ -10,8 +10,8 @@ use Rattle.soft.specs.Kind.{Kind}
 use Rattle.receiver.specs.declared.faults.ReceiverFault.{ReceiverFault}
 use Rattle.receiver.specs.declared.memory.Step.{Step}
 use Rattle.receiver.specs.Agreement.{Agrees}
-use Rattle.receiver.specs.Calls.{Call, Outcome, called, remap, refused, done}
-use Rattle.receiver.specs.Model.{Model, fresh}
+use Rattle.receiver.specs.Calls.{Call, called, remap, refused, done}
+use Rattle.receiver.specs.Model.{Model}
 use Rattle.session.specs.declared.faults.SessionFault.{SessionFault}
 use Rattle.session.specs.declared.faults.SessionFault.TheVariants as fault
 use Rattle.session.specs.declared.chosen.Chosen.{Chosen}
@@ -19,7 +19,7 @@ use Rattle.session.specs.declared.shelf.Record.{Record}
 use Rattle.session.specs.declared.state.State.{State}
 use Rattle.session.specs.Chosen.{exponent_of, marks_of}
 use Rattle.session.specs.Faults.{of_map}
-use Rattle.session.specs.Sessions.{InForce, Done, refuse, told, chosen_in, choose, encoded_in, reply, called_in, do_call, do_order}
+use Rattle.session.specs.Sessions.{InForce, refuse, told, chosen_in, choose, encoded_in, reply, called_in, do_call, do_order}
 use Rattle.session.specs.States.{Room, Stands, Did}
 use Rattle.session.specs.Text.{bits_text, message_text}
 

@@ -1,5 +1,5 @@
 -- What commands leave in force, over plain values.
-use Rattle.std.proofs.Common.{◌≡◌, ℕ, ◌^◌, Bool, true, false, cond, List, [], ◌∷◌, is_some, Some, None, Err, decimal, Option, sym, refl, ap, ◌∙◌, arith}
+use Rattle.std.proofs.Common.{◌≡◌, ℕ, ◌^◌, true, false, List, [], ◌∷◌, Some, None, Err, decimal, Option, sym, refl, ap, ◌∙◌, arith}
 use Rattle.code.specs.declared.faults.MapFault.{MapFault}
 use Rattle.code.specs.Encode.{informed_count}
 use Rattle.code.specs.Orders.{order_fault, count_fault, ranks_of, ranked_marks}

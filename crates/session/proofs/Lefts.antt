@@ -3,14 +3,14 @@ use Rattle.std.proofs.Common.{◌≡◌, ℕ, ◌+◌, ◌-◌, ◌*◌, ◌^◌
 use Rattle.std.proofs.lemmas.List.{drop-drop, drop_all, length-take-le}
 use Rattle.std.proofs.lemmas.Bool.{leb-true, cases_lt}
 use Rattle.code.specs.declared.faults.MapFault.TheVariants.{Exponent}
-use Rattle.code.specs.Spans.{good_exponent, part}
+use Rattle.code.specs.Spans.{good_exponent}
 use Rattle.session.specs.declared.commands.Make.{Make}
 use Rattle.session.specs.declared.commands.Make.TheVariants.{Ranked, Listed}
 use Rattle.session.specs.declared.faults.SessionFault.{SessionFault}
 use Rattle.session.specs.declared.faults.SessionFault.TheVariants.{Cut, Letter}
 use Rattle.session.specs.Faults.{of_map}
 use Rattle.session.specs.declared.commands.Sizes.{Sizes}
-use Rattle.session.specs.Commands.{Request, order, ranked, listed, encode, caps, word, short_word, advance, taking, dropping, Read, keeping, counted, read_pair, read_sized, read_slot, read_order, read_ranked, read_listed, read_encode, read_caps, read_word, read_short_word, read_advance, read_in_ranked, read_in_listed, read_in_make, read_letter, read_command}
+use Rattle.session.specs.Commands.{Request, order, ranked, listed, encode, caps, word, advance, taking, dropping, Read, keeping, counted, read_pair, read_sized, read_slot, read_order, read_ranked, read_listed, read_encode, read_caps, read_word, read_short_word, read_advance, read_in_ranked, read_in_make, read_letter, read_command}
 use Rattle.session.specs.States.{Placed, Left}
 
 -- what follows some bytes is left of them

@@ -1,5 +1,5 @@
 -- The header and the commands of a session, as they are read: cited by `read_header` and `read_command`. Assumes nothing.
-use Rattle.std.specs.Prelude.{ℕ, ◌+◌, ◌*◌, ◌^◌, Bool, cond, not, List, [], ◌∷◌, length, take, drop, Some, None, Ok, Err, Option, Result, ◌==◌, nat_le}
+use Rattle.std.specs.Prelude.{ℕ, ◌+◌, ◌*◌, ◌^◌, cond, List, [], ◌∷◌, length, take, drop, Some, None, Ok, Err, Option, Result, ◌==◌, nat_le}
 use Rattle.code.specs.declared.faults.MapFault.TheVariants.{Exponent}
 use Rattle.code.specs.Spans.{good_exponent}
 use Rattle.session.specs.declared.faults.SessionFault.{SessionFault}

@@ -5,7 +5,6 @@ use Rattle.soft.specs.Kind.{Kind}
 use Rattle.receiver.specs.declared.memory.Step.{Step}
 use Rattle.receiver.specs.Agreement.{Agrees}
 use Rattle.receiver.specs.Model.{Model, fresh}
-use Rattle.session.specs.declared.chosen.Chosen.{Chosen}
 use Rattle.session.specs.declared.faults.SessionFault.{SessionFault}
 use Rattle.session.specs.declared.interpreter.Opened.{Opened}
 use Rattle.session.specs.declared.state.State.{State}

@@ -1,7 +1,7 @@
-use Rattle.std.proofs.Common.{◌≡◌, ◌^◌, List, length, Some, None, sym, refl, ap, ◌∙◌, arith}
+use Rattle.std.proofs.Common.{◌≡◌, ◌^◌, length, sym, ap, ◌∙◌}
 use Rattle.std.specs.Option.{option_map}
-use Rattle.code.specs.declared.faults.MapFault.TheVariants.{Bit, Buffer}
-use Rattle.code.specs.Encode.{encoded, encode_fault, laid}
+use Rattle.code.specs.declared.faults.MapFault.TheVariants.{Bit}
+use Rattle.code.specs.Encode.{encoded, laid}
 use Rattle.code.specs.Faults.{answer_to, in_force}
 use Rattle.code.specs.Transform.{transform}
 use Rattle.code.proofs.Encodings.{wrong_message, wrong_room, message_asked, err_not_ok, read_back}

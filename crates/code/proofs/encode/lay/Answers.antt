@@ -1,7 +1,7 @@
-use Rattle.std.proofs.Common.{◌≡◌, ◌+◌, ◌<◌, ◌≤◌, ◌++◌, length, get_or, take, drop, sym, ap, ◌∙◌, ap₂, arith}
+use Rattle.std.proofs.Common.{◌+◌, ◌<◌, ◌≤◌, ◌++◌, length, take, drop, sym, ap, ◌∙◌, ap₂, arith}
 use Rattle.std.proofs.lemmas.List.{at_drop_all, take_all, append-nil}
 use Rattle.std.proofs.lemmas.Bool.{eqb-true, eqb-false}
-use Rattle.code.specs.Encode.{informed_count, laid}
+use Rattle.code.specs.Encode.{laid}
 use Rattle.code.proofs.Laying.{count_informed, count_frozen, laid_informed, laid_frozen, laid_more}
 use Rattle.code.proofs.encode.lay.Goals as goal
 use Rattle.code.proofs.encode.lay.Goals.{then-is_informed, else-is_informed}

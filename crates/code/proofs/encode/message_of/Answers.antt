@@ -1,9 +1,9 @@
-use Rattle.std.proofs.Common.{◌≡◌, ◌^◌, length, sym, refl, ap, ◌∙◌, arith}
-use Rattle.code.specs.Encode.{informed, message_fault}
+use Rattle.std.proofs.Common.{◌≡◌, ◌^◌, length, sym, refl, ap, ◌∙◌}
+use Rattle.code.specs.Encode.{informed}
 use Rattle.code.specs.Faults.{answer_to, in_force}
 use Rattle.code.specs.Transform.{transform}
 use Rattle.code.proofs.Encodings.{message_wrong, word_wrong, both_right}
-use Rattle.code.proofs.Transforms.{keeps_length, undoes_itself}
+use Rattle.code.proofs.Transforms.{undoes_itself}
 use Rattle.code.proofs.encode.message_of.Goals as goal
 
 pub returns-then-message-informed_count : goal.returns-then-message-informed_count

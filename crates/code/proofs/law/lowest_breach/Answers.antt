@@ -1,4 +1,4 @@
-use Rattle.std.proofs.Common.{◌^◌, ◌<◌, sym, arith}
+use Rattle.std.proofs.Common.{◌^◌, sym, arith}
 use Rattle.code.specs.Orders.{ranks_of, keeps_law}
 use Rattle.code.proofs.Lowest.{lowest_more, lowest_found}
 use Rattle.code.proofs.law.lowest_breach.Goals as goal

@@ -1,4 +1,4 @@
-use Rattle.std.proofs.Common.{◌&&◌, sym, refl, ap, ◌∙◌, arith, ltb-false, ltb-true}
+use Rattle.std.proofs.Common.{sym, refl, ◌∙◌, arith, ltb-false, ltb-true}
 use Rattle.std.proofs.lemmas.Bool.{eq-eqb, ne_eqb, and_right}
 use Rattle.code.proofs.Sames.{rep_row, rep_none, and_true}
 use Rattle.code.proofs.patterns.is_repetition.Goals as goal

@@ -1,4 +1,4 @@
-use Rattle.std.proofs.Common.{◌≡◌, ◌-◌, ◌^◌, ◌<◌, length, refl, ap, ◌∙◌, arith, length-set}
+use Rattle.std.proofs.Common.{◌≡◌, ◌^◌, ◌<◌, length, refl, ◌∙◌, arith, length-set}
 use Rattle.code.specs.Orders.{ranks_of, fresh_rank}
 use Rattle.code.proofs.Written.{length-ranks_of}
 use Rattle.code.proofs.Lowest.{lowest_none, lowest_more, lowest_found}

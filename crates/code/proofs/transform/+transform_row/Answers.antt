@@ -1,4 +1,4 @@
-use Rattle.std.proofs.Common.{sym, refl, ap, ◌∙◌, arith, rules}
+use Rattle.std.proofs.Common.{refl, rules}
 use Rattle.code.specs.Transform.{transform}
 use Rattle.code.proofs.Rows.{half_length, rest_length, both_length, row_done, left_half, right_half}
 use Rattle.code.proofs.transform.+transform_row.Goals as goal

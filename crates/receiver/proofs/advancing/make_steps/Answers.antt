@@ -1,4 +1,4 @@
-use Rattle.std.proofs.Common.{◌≡◌, ◌≤◌, sym, refl, ap, ◌∙◌, arith, rules}
+use Rattle.std.proofs.Common.{refl, ◌∙◌, arith, rules}
 use Rattle.receiver.specs.Capping.{caps_of}
 use Rattle.receiver.proofs.Walks.{walked_start, walked_step, walked_all, walked_out}
 use Rattle.receiver.proofs.advancing.make_steps.Goals as goal

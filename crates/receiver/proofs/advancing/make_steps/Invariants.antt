@@ -1,4 +1,4 @@
-use Rattle.std.proofs.Common.{◌≡◌, ℕ, ◌-◌, ◌^◌, ◌≤◌, List, drop}
+use Rattle.std.proofs.Common.{◌≡◌, ◌-◌, ◌^◌, ◌≤◌, drop}
 use Rattle.receiver.specs.Capping.{caps_of}
 use Rattle.receiver.specs.Coherence.{Coherent}
 use Rattle.receiver.specs.Work.{Span, Root, Place}

@@ -1,4 +1,4 @@
-use Rattle.std.proofs.Common.{◌≡◌, length, get_or, is_some, sym, ap, ◌∙◌}
+use Rattle.std.proofs.Common.{length, get_or, is_some, sym, ap, ◌∙◌}
 use Rattle.code.proofs.Lowest.{lowest_none, lowest_more, lowest_found, lowest_all}
 use Rattle.receiver.proofs.loading.lowest_unread.Goals as goal
 

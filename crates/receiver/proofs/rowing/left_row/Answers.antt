@@ -1,7 +1,6 @@
-use Rattle.std.proofs.Common.{◌≡◌, ℕ, ◌+◌, ◌-◌, ◌*◌, ◌^◌, ◌≤◌, List, ◌++◌, length, take, drop, sym, refl, ap, ◌∙◌, ap₂, arith}
-use Rattle.std.proofs.lemmas.List.{length-take, length-drop}
+use Rattle.std.proofs.Common.{◌≡◌, ◌+◌, ◌-◌, ◌*◌, ◌++◌, length, take, drop, sym, ◌∙◌, ap₂, arith}
 use Rattle.code.specs.Spans.{part}
-use Rattle.receiver.proofs.PartWrites.{put_is, part_first, part_second, length_part, end_written}
+use Rattle.receiver.proofs.PartWrites.{part_first, part_second, length_part, end_written}
 use Rattle.cancellation.specs.Rows.{check_row}
 use Rattle.cancellation.proofs.Combined.{length-check_row}
 use Rattle.receiver.proofs.rowing.left_row.Goals as goal

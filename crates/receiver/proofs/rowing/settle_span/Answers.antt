@@ -1,7 +1,6 @@
-use Rattle.std.proofs.Common.{◌≡◌, ℕ, ◌+◌, ◌-◌, ◌*◌, ◌^◌, ◌≤◌, List, ◌++◌, length, take, drop, sym, refl, ap, ◌∙◌, ap₂, arith}
-use Rattle.std.proofs.lemmas.List.{length-drop, take_all}
+use Rattle.std.proofs.Common.{◌≡◌, ◌+◌, ◌-◌, ◌^◌, length, take, drop, sym, ap, ◌∙◌, arith}
 use Rattle.code.specs.Spans.{part, pattern}
-use Rattle.receiver.proofs.PartWrites.{put_is, part_first, part_second, length_part, end_written}
+use Rattle.receiver.proofs.PartWrites.{put_is, length_part}
 use Rattle.std.proofs.lemmas.Slice.{take-put_mid_below, drop-put_mid}
 use Rattle.cancellation.specs.Cancel.{cancel}
 use Rattle.receiver.specs.Stacks.{overwritten}

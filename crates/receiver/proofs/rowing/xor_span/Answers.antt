@@ -1,7 +1,7 @@
-use Rattle.std.proofs.Common.{◌≡◌, ℕ, ◌+◌, ◌-◌, ◌*◌, ◌^◌, ◌≤◌, List, ◌++◌, length, take, drop, sym, refl, ap, ◌∙◌, ap₂, arith}
+use Rattle.std.proofs.Common.{◌≡◌, ◌+◌, ◌-◌, ◌*◌, length, take, drop, sym, ap, ◌∙◌, ap₂, arith}
 use Rattle.std.proofs.lemmas.List.{length-drop, take_all}
-use Rattle.code.specs.Spans.{part, pattern}
-use Rattle.receiver.proofs.PartWrites.{put_is, part_first, part_second, length_part, end_written}
+use Rattle.code.specs.Spans.{part}
+use Rattle.receiver.proofs.PartWrites.{put_is, part_first, part_second, length_part}
 use Rattle.std.proofs.lemmas.Slice.{drop-put_mid}
 use Rattle.code.specs.Transform.{join_halves}
 use Rattle.receiver.specs.Stacks.{overwritten}

@@ -1,4 +1,4 @@
-use Rattle.std.proofs.Common.{◌≡◌, ◌+◌, ◌*◌, ◌^◌, drop, sym, ap, ◌∙◌, ap₂, arith}
+use Rattle.std.proofs.Common.{◌≡◌, ◌+◌, ◌*◌, ◌^◌, drop, sym, ap, ◌∙◌, arith}
 use Rattle.code.specs.Spans.{part}
 use Rattle.code.specs.Transform.{join_halves}
 use Rattle.receiver.specs.Stacks.{overwritten}

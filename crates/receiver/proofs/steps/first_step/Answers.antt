@@ -1,8 +1,8 @@
-use Rattle.std.proofs.Common.{◌≡◌, ℕ, ◌+◌, ◌-◌, ◌*◌, ◌^◌, ◌<◌, ◌≤◌, length, drop, set, sym, refl, ap, ◌∙◌, subst, ap₂, arith}
+use Rattle.std.proofs.Common.{◌≡◌, ◌+◌, ◌-◌, ◌^◌, ◌<◌, set, sym, refl, ap, ◌∙◌, subst, ap₂, arith}
 use Rattle.code.specs.Spans.{Means, kind_of}
 use Rattle.receiver.specs.Capping.{caps_of}
 use Rattle.receiver.specs.declared.memory.Next.TheVariants as next
-use Rattle.receiver.specs.Coherence.{pending_of, Coherent}
+use Rattle.receiver.specs.Coherence.{Coherent}
 use Rattle.receiver.specs.Steps.{settled_by}
 use Rattle.receiver.specs.Work.{first, at, span_at, stepped}
 use Rattle.receiver.proofs.Counts.{unsettled_some}

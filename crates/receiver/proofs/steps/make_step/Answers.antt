@@ -1,9 +1,9 @@
-use Rattle.std.proofs.Common.{◌≡◌, ℕ, ◌+◌, ◌-◌, ◌*◌, ◌^◌, ◌<◌, ◌≤◌, length, drop, set, sym, refl, ap, ◌∙◌, subst, ap₂, arith, pow_mono}
+use Rattle.std.proofs.Common.{◌≡◌, ◌+◌, ◌-◌, ◌^◌, ◌<◌, ◌≤◌, length, drop, set, sym, refl, ap, ◌∙◌, subst, ap₂, arith, pow_mono}
 use Rattle.code.specs.Spans.{Means}
 use Rattle.receiver.specs.declared.memory.Next.TheVariants as next
 use Rattle.receiver.specs.Capping.{caps_of}
-use Rattle.receiver.specs.Coherence.{Open, Coherent, pending_of}
-use Rattle.receiver.specs.Work.{first, second, final, at, stepped, span_at}
+use Rattle.receiver.specs.Coherence.{Open, Coherent}
+use Rattle.receiver.specs.Work.{first, second, final, at, stepped}
 use Rattle.receiver.proofs.Made.{no_top, found_e, found_start, at_first, at_second, at_final, right_follows, final_follows}
 use Rattle.receiver.proofs.Overwrites.{beyond_later}
 use Rattle.receiver.proofs.StepLaws.{base}

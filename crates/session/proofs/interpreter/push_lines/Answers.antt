@@ -1,5 +1,5 @@
-use Rattle.std.proofs.Common.{◌≡◌, ◌-◌, ◌<◌, length, refl, ◌∙◌, le_refl, arith, ltb-false, ltb-true}
-use Rattle.session.specs.Sessions.{nothing, sizes_in}
+use Rattle.std.proofs.Common.{◌<◌, length, refl, le_refl, arith, ltb-false, ltb-true}
+use Rattle.session.specs.Sessions.{nothing}
 use Rattle.session.proofs.Turns.{going_placed, going_last, going_done, between_more}
 use Rattle.session.proofs.interpreter.push_lines.Goals as goal
 

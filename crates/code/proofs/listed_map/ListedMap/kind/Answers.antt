@@ -1,4 +1,4 @@
-use Rattle.std.proofs.Common.{◌≡◌, ◌+◌, ◌≤◌, length, sym, arith, rules}
+use Rattle.std.proofs.Common.{◌+◌, ◌≤◌, sym, arith, rules}
 use Rattle.code.proofs.Marks.{listed_means}
 use Rattle.code.proofs.SpanTests.{span_within, span_most}
 use Rattle.code.proofs.listed_map.ListedMap.kind.Goals as goal

@@ -1,10 +1,5 @@
-use Rattle.std.proofs.Common.{◌≡◌, List, [], sym, refl, ap, ◌∙◌, subst, ap₂}
-use Rattle.code.specs.Spans.{Means}
-use Rattle.receiver.specs.Calls.{Call}
-use Rattle.receiver.specs.Capping.{caps_of}
-use Rattle.receiver.specs.Agreement.{roomy}
-use Rattle.receiver.specs.Admissions.{in_force, admitted}
-use Rattle.receiver.proofs.Leads.{continues, in_force-ap, same_receiver}
+use Rattle.std.proofs.Common.{refl}
+use Rattle.receiver.proofs.Leads.{continues, same_receiver}
 use Rattle.receiver.proofs.Refines.{agrees_drop}
 use Rattle.receiver.proofs.receiver.Receiver.drop_word.Goals as goal
 

@@ -1,5 +1,4 @@
-use Rattle.std.proofs.Common.{◌≡◌, ℕ, ◌^◌, ◌<◌, ◌≤◌, true, eqb, length, take, None, Ok, sym, refl, ap, ◌∙◌, ap₂, arith, rules}
-use Rattle.std.proofs.lemmas.List.{length-take}
+use Rattle.std.proofs.Common.{◌≡◌, ◌^◌, eqb, length, take, None, Ok, sym, refl, ap, ◌∙◌, rules}
 use Rattle.std.proofs.lemmas.Bool.{and_parts, eqb-true}
 use Rattle.code.specs.Encode.{informed, informed_count, message_fault}
 use Rattle.code.specs.Faults as code
@@ -9,7 +8,6 @@ use Rattle.receiver.specs.Admissions.{replied, in_force}
 use Rattle.receiver.specs.Agreement.{roomy}
 use Rattle.receiver.specs.Model.{right_buffers, message_in}
 use Rattle.receiver.specs.Words.{take_door, steps_kept}
-use Rattle.receiver.proofs.Rooms.{room_found}
 use Rattle.receiver.proofs.receiver.Receiver.hand_over.Goals as goal
 
 pub returns : goal.returns

@@ -1,9 +1,5 @@
-use Rattle.std.proofs.Common.{◌≡◌, List, [], sym, refl, ap, ◌∙◌, subst, ap₂}
+use Rattle.std.proofs.Common.{refl, subst}
 use Rattle.code.specs.Spans.{Means}
-use Rattle.receiver.specs.Calls.{Call}
-use Rattle.receiver.specs.Capping.{caps_of}
-use Rattle.receiver.specs.Agreement.{roomy}
-use Rattle.receiver.specs.Admissions.{in_force, admitted}
 use Rattle.receiver.specs.Histories.{after_calls}
 use Rattle.receiver.specs.Law.{AllMapped}
 use Rattle.receiver.proofs.Refines.{agrees_new}

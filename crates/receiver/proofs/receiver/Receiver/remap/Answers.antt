@@ -1,9 +1,6 @@
-use Rattle.std.proofs.Common.{◌≡◌, List, [], sym, refl, ap, ◌∙◌, subst, ap₂}
+use Rattle.std.proofs.Common.{refl, ap, ◌∙◌, subst}
 use Rattle.code.specs.Spans.{Means}
-use Rattle.receiver.specs.Calls.{Call}
-use Rattle.receiver.specs.Capping.{caps_of}
-use Rattle.receiver.specs.Agreement.{roomy}
-use Rattle.receiver.specs.Admissions.{in_force, admitted}
+use Rattle.receiver.specs.Admissions.{admitted}
 use Rattle.receiver.specs.declared.states.Asked.TheVariants as Asked
 use Rattle.receiver.proofs.Leads.{continues, in_force-ap, same_receiver}
 use Rattle.receiver.proofs.Refines.{agrees_remap}

@@ -1,9 +1,5 @@
-use Rattle.std.proofs.Common.{◌≡◌, List, [], sym, refl, ap, ◌∙◌, subst, ap₂}
-use Rattle.code.specs.Spans.{Means}
-use Rattle.receiver.specs.Calls.{Call}
+use Rattle.std.proofs.Common.{refl, ap, ◌∙◌}
 use Rattle.receiver.specs.Capping.{caps_of}
-use Rattle.receiver.specs.Agreement.{roomy}
-use Rattle.receiver.specs.Admissions.{in_force, admitted}
 use Rattle.receiver.specs.Model.{caps_fault}
 use Rattle.receiver.proofs.Leads.{continues, in_force-ap, same_receiver}
 use Rattle.receiver.proofs.Refines.{agrees_caps}

@@ -1,12 +1,9 @@
-use Rattle.std.proofs.Common.{◌≡◌, ◌^◌, ◌&&◌, leb, List, [], length, sym, refl, ap, ◌∙◌, subst, ap₂}
+use Rattle.std.proofs.Common.{◌≡◌, ◌^◌, ◌&&◌, leb, length, refl, ap, ◌∙◌, subst}
 use Rattle.code.specs.Spans.{Means}
-use Rattle.receiver.specs.Calls.{Call}
-use Rattle.receiver.specs.Capping.{caps_of}
 use Rattle.receiver.specs.Agreement.{roomy}
-use Rattle.receiver.specs.Admissions.{in_force, admitted}
 use Rattle.receiver.specs.Model.{short_length}
 use Rattle.receiver.specs.Words.{TakenInHand, word_door}
-use Rattle.receiver.proofs.Leads.{continues, in_force-ap, same_receiver}
+use Rattle.receiver.proofs.Leads.{continues, same_receiver}
 use Rattle.receiver.proofs.Refines.{agrees_word, short_fits}
 use Rattle.receiver.proofs.receiver.Receiver.short_word.Goals as goal
 

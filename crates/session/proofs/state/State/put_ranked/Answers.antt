@@ -1,4 +1,3 @@
-use Rattle.std.proofs.Common.{◌∙◌}
 use Rattle.session.proofs.Doing.{choose_did, ranked_did}
 use Rattle.session.proofs.state.State.put_ranked.Goals as goal
 
