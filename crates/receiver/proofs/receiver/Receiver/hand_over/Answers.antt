@@ -1,13 +1,13 @@
-use Rattle.std.proofs.Common.{◌≡◌, ◌^◌, eqb, length, take, None, Ok, sym, refl, ap, ◌∙◌, rules}
+use Rattle.std.proofs.Common.{◌≡◌, ◌^◌, eqb, length, take, None, sym, refl, ap, ◌∙◌, rules}
 use Rattle.std.proofs.lemmas.Bool.{and_parts, eqb-true}
 use Rattle.code.specs.Encode.{informed, informed_count, message_fault}
 use Rattle.code.specs.Faults as code
 use Rattle.code.specs.Transform.{transform}
 use Rattle.code.proofs.Encodings.{both_right}
-use Rattle.receiver.specs.Admissions.{replied, in_force}
+use Rattle.receiver.specs.Admissions.{in_force}
 use Rattle.receiver.specs.Agreement.{roomy}
 use Rattle.receiver.specs.Model.{right_buffers, message_in}
-use Rattle.receiver.specs.Words.{take_door, steps_kept}
+use Rattle.receiver.specs.Words.{take_door}
 use Rattle.receiver.proofs.receiver.Receiver.hand_over.Goals as goal
 
 pub returns : goal.returns
@@ -30,7 +30,7 @@ returns g c =
     let read : c.message_of.new.message ≡ message_in n marks (take (2 ^ n) bits) =
     c.message_of.ensures.message ∙ ap (λ o. code.in_force o (informed marks (transform n c.copy_front.new.word)) message) fault ∙ ap (λ w. informed marks (transform n w)) copied in
     record {
-      answer = ap Ok c.steps_kept-steps.ensures ∙ sym (ap (λ o. replied o (steps_kept state)) door);
+      answer = search rules;
       word = c.message_of.ensures.word ∙ copied ∙ sym (ap (λ o. in_force o (take (2 ^ n) bits) word) door);
       message = read ∙ sym (ap (λ o. in_force o (message_in n marks (take (2 ^ n) bits)) message) door);
       state = search rules;
