@@ -168,20 +168,43 @@ module _ {S : Type 0} (kind : Kind S) where
         record { n_is = was.n_is; marks_are = was.marks_are; caps_are = was.caps_are; hand = state-now ∙ ap (λ o. in_force o Idle state) door },
       )
 
-  word_door_lem : (m : Model S) (n : ℕ) (marks : List ℕ) (caps : Kept) (fits : ℕ → ℕ → Bool) (bytes : List ℕ) (state : State) (soft : List S) (steps : List Step) (row : List ℕ) →
+  -- the questions of each call are those of the model, whatever memory the call was handed
+  pub word_door_lem : (m : Model S) (n : ℕ) (marks : List ℕ) (caps : Kept) (fits : ℕ → ℕ → Bool) (bytes : List ℕ) (state : State) (soft : List S) (steps : List Step) (row : List ℕ) (room : Bool) →
       Agrees kind m n marks caps state soft steps row →
-      word_door kind state (fits n (length bytes)) (roomy n soft steps row) bytes ≡ Model.word_fault kind m fits (roomy n soft steps row) bytes
+      word_door kind state (fits n (length bytes)) room bytes ≡ Model.word_fault kind m fits room bytes
   unfolding Model.word_fault
-  word_door_lem m n marks caps fits bytes state soft steps row was =
-      ap (λ o. or_else o (cond (not (fits n (length bytes))) (Some Length) (cond (not (roomy n soft steps row)) (Some Memory) (option_map Byte (lowest_no (λ i. is_some (kind.read (get_or bytes i 0))) 0 (length bytes))))))
+  word_door_lem m n marks caps fits bytes state soft steps row room was =
+      ap (λ o. or_else o (cond (not (fits n (length bytes))) (Some Length) (cond (not room) (Some Memory) (option_map Byte (lowest_no (λ i. is_some (kind.read (get_or bytes i 0))) 0 (length bytes))))))
       (door_is n marks m.hand state soft steps row Word was.hand ∙ wants_none_word m.hand)
-      ∙ go (is_some m.hand) ∙ ap (λ k. Model.word_fault_by kind (is_some m.hand) k fits (roomy n soft steps row) bytes) (sym was.n_is)
+      ∙ go (is_some m.hand) ∙ ap (λ k. Model.word_fault_by kind (is_some m.hand) k fits room bytes) (sym was.n_is)
     where
       go : (b : Bool) → or_else (cond b (Some WordInHand) None)
-          (cond (not (fits n (length bytes))) (Some Length) (cond (not (roomy n soft steps row)) (Some Memory) (option_map Byte (lowest_no (λ i. is_some (kind.read (get_or bytes i 0))) 0 (length bytes)))))
-          ≡ Model.word_fault_by kind b n fits (roomy n soft steps row) bytes
+          (cond (not (fits n (length bytes))) (Some Length) (cond (not room) (Some Memory) (option_map Byte (lowest_no (λ i. is_some (kind.read (get_or bytes i 0))) 0 (length bytes)))))
+          ≡ Model.word_fault_by kind b n fits room bytes
       go true = refl
       go false = refl
+
+  pub advance_door_lem : (m : Model S) (n : ℕ) (marks : List ℕ) (caps : Kept) (state : State) (soft : List S) (steps : List Step) (row : List ℕ) (room : Bool) →
+      Agrees kind m n marks caps state soft steps row → advance_door state room ≡ advance_fault m room
+  advance_door_lem m n marks caps state soft steps row room was =
+      ap (λ o. or_else o (cond room None (Some Memory))) (door_is n marks m.hand state soft steps row Advance was.hand ∙ wants_one_advance m.hand) ∙ go (is_some m.hand)
+    where
+      go : (b : Bool) → or_else (cond b None (Some NoWord)) (cond room None (Some Memory)) ≡ cond b (cond room None (Some Memory)) (Some NoWord)
+      go true = refl
+      go false = refl
+
+  pub take_door_lem : (m : Model S) (n : ℕ) (marks : List ℕ) (caps : Kept) (state : State) (soft : List S) (steps : List Step) (row : List ℕ) (room right : Bool) →
+      Agrees kind m n marks caps state soft steps row → take_door state room right ≡ take_fault m.hand room right
+  unfolding wanted
+  take_door_lem m n marks caps state soft steps row room right was = ap (λ o. or_else o (cond room (cond right None (Some Length)) (Some Memory))) (door_is n marks m.hand state soft steps row Take was.hand) ∙ go m.hand
+    where
+      by_place : (place : Place) → or_else (admitted (kept_at place 0 0) Take) (cond room (cond right None (Some Length)) (Some Memory)) ≡ take_fault_at place room right
+      by_place (at next path) = refl
+      by_place finished = refl
+
+      go : (hand : Option (Hand S)) → or_else (wanted hand Take) (cond room (cond right None (Some Length)) (Some Memory)) ≡ take_fault hand room right
+      go None = refl
+      go (Some h) = by_place h.place
 
   -- word and short word, of a length that `fits`
   pub agrees_word : (m : Model S) (n : ℕ) (marks : List ℕ) (caps : Kept) (fits : ℕ → ℕ → Bool) (bytes : List ℕ) (state state' : State) (soft soft' : List S) (steps steps' : List Step) (row row' : List ℕ) (r : Result (Unit {0}) ReceiverFault) →
@@ -192,7 +215,7 @@ module _ {S : Type 0} (kind : Kind S) where
       × Agrees kind (outcome (Model.word_fault kind m fits (roomy n soft steps row) bytes) done (Model.worded kind bytes m) m).after n marks caps state' soft' steps' row'
   agrees_word m n marks caps fits bytes state state' soft soft' steps steps' row row' r means short was taken =
       go (word_door kind state (fits n (length bytes)) (roomy n soft steps row) bytes) refl
-      (word_door_lem m n marks caps fits bytes state soft steps row was)
+      (word_door_lem m n marks caps fits bytes state soft steps row (roomy n soft steps row) was)
     where
       later : word_door kind state (fits n (length bytes)) (roomy n soft steps row) bytes ≡ None → Agrees kind (Model.worded kind bytes m) n marks caps state' soft' steps' row'
       later none =

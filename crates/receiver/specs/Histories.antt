@@ -1,14 +1,15 @@
 -- A receiver that some calls have led to, and the law over all of them: cited by every public call of the receiver. Assumes nothing.
-use Rattle.std.specs.Prelude.{ℕ, Bool, List, [], ◌∷◌, ◌++◌, Ok, Err, Result}
+use Rattle.std.specs.Prelude.{◌≡◌, ℕ, Bool, false, List, [], ◌∷◌, ◌++◌, Ok, Err, Result}
 use Rattle.code.specs.Spans.{Means}
 use Rattle.soft.specs.Kind.{Kind}
 use Rattle.receiver.specs.declared.caps.Caps.{Caps as Kept}
 use Rattle.receiver.specs.declared.faults.ReceiverFault.{ReceiverFault}
 use Rattle.receiver.specs.declared.memory.Step.{Step}
 use Rattle.receiver.specs.declared.states.State.{State}
+use Rattle.receiver.specs.declared.states.State.TheVariants.{Idle}
 use Rattle.receiver.specs.Agreement.{Agrees}
-use Rattle.receiver.specs.Calls.{Call, Answer, refused, done, went, took, called, answers_to}
-use Rattle.receiver.specs.Law.{Law, AllMapped}
+use Rattle.receiver.specs.Calls.{Call, set_caps, Answer, refused, done, went, took, called, answers_to}
+use Rattle.receiver.specs.Law.{accepted, Law, AllMapped}
 use Rattle.receiver.specs.Model.{Model, fresh}
 
 -- what is in force after a list of calls
@@ -44,3 +45,13 @@ Continues kind this answer n marks caps state soft steps row n' marks' caps' sta
     (n0 : ℕ) (marks0 : List ℕ) (calls : List Call) → Led kind n0 marks0 calls n marks caps state soft steps row →
     Led kind n0 marks0 (calls ++ (this ∷ [])) n' marks' caps' state' soft' steps' row'
     × Law kind n0 marks0 (calls ++ (this ∷ [])) (answers_to kind calls (fresh n0 marks0) ++ (answer ∷ []))
+
+-- a call that was refused, whatever memory it was handed: with it the law goes on over the memory that the calls before have left, and all is as it was
+abbrev pub Stays : {S : Type 0} → Kind S → Call → Answer → ℕ → List ℕ → Kept → State → ℕ → List ℕ → Kept → State → Type 0
+Stays {S} kind this answer n marks caps state n' marks' caps' state' =
+    accepted answer ≡ false → (soft : List S) (steps : List Step) (row : List ℕ) → Continues kind this answer n marks caps state soft steps row n' marks' caps' state' soft steps row
+
+-- with no word in hand, and whatever its memory holds, this receiver is as a new one over its map that was given its caps
+abbrev pub Anew : {S : Type 0} → Kind S → ℕ → List ℕ → Kept → State → Type 0
+Anew {S} kind n marks caps state =
+    state ≡ Idle → (soft : List S) (steps : List Step) (row : List ℕ) → Led kind n marks (set_caps caps.first caps.second ∷ []) n marks caps state soft steps row

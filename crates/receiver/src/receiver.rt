@@ -1,6 +1,7 @@
 // What a receiver keeps from call to call.
 ghost use Rattle.std.specs.Prelude.{◌≤◌};
 ghost use Rattle.receiver.specs.States.{height_of};
+ghost use Rattle.receiver.specs.declared.caps.Caps.{Caps};
 
 use crate::caps::Caps;
 use crate::states::State;
@@ -14,4 +15,6 @@ pub struct Receiver<M, S> {
     pub(crate) state: State,
     pub(crate) kind: PhantomData<S>,
     ghost few: { height_of state ≤ 64 },
+    ghost low: { caps.first ≤ 10 },
+    ghost high: { caps.second ≤ 10 },
 }

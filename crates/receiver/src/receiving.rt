@@ -4,7 +4,7 @@ ghost use Rattle.receiver.specs.declared.memory.Step.{Step as Pending};
 ghost use Rattle.receiver.specs.Admissions.{admitted, replied, in_force};
 ghost use Rattle.receiver.specs.Agreement.{roomy};
 ghost use Rattle.receiver.specs.Calls.{Call};
-ghost use Rattle.receiver.specs.Histories.{Led, Continues, plain, went_to, taken_as};
+ghost use Rattle.receiver.specs.Histories.{Led, Continues, Stays, Anew, plain, went_to, taken_as};
 ghost use Rattle.receiver.specs.Model.{caps_fault, full_length, short_length, right_buffers, message_in};
 ghost use Rattle.receiver.specs.Words.{TakenInHand, word_door, take_door, steps_kept, advance_door, Goes, answer_of};
 
@@ -85,6 +85,7 @@ impl<M: Map + Copy, S: Soft + Copy> Receiver<M, S> {
         ensures taken { TakenInHand S.Soft.kind (M.Map.exponent self.old.map) (word_door S.Soft.kind self.old.state (full_length (M.Map.exponent self.old.map) (length bytes.now)) (roomy (M.Map.exponent self.old.map) soft.old pending.old bits.old) bytes.now) bytes.now soft.old soft.new pending.old pending.new bits.old bits.new self.old.state self.new.state result }
         ensures rest { (self.new.map ≡ self.old.map) × (self.new.caps ≡ self.old.caps) }
         ensures law { Continues S.Soft.kind (Call.word (roomy (M.Map.exponent self.old.map) soft.old pending.old bits.old) bytes.now) (plain result) (M.Map.exponent self.old.map) (M.Map.marks self.old.map) self.old.caps self.old.state soft.old pending.old bits.old (M.Map.exponent self.new.map) (M.Map.marks self.new.map) self.new.caps self.new.state soft.new pending.new bits.new }
+        ensures stays { Stays S.Soft.kind (Call.word (roomy (M.Map.exponent self.old.map) soft.old pending.old bits.old) bytes.now) (plain result) (M.Map.exponent self.old.map) (M.Map.marks self.old.map) self.old.caps self.old.state (M.Map.exponent self.new.map) (M.Map.marks self.new.map) self.new.caps self.new.state }
     {
         let size = length_of(self.map.n());
         self.begin(soft, pending, bits, bytes, bytes.len() == size)
@@ -101,6 +102,7 @@ impl<M: Map + Copy, S: Soft + Copy> Receiver<M, S> {
         ensures taken { TakenInHand S.Soft.kind (M.Map.exponent self.old.map) (word_door S.Soft.kind self.old.state (short_length (M.Map.exponent self.old.map) (length bytes.now)) (roomy (M.Map.exponent self.old.map) soft.old pending.old bits.old) bytes.now) bytes.now soft.old soft.new pending.old pending.new bits.old bits.new self.old.state self.new.state result }
         ensures rest { (self.new.map ≡ self.old.map) × (self.new.caps ≡ self.old.caps) }
         ensures law { Continues S.Soft.kind (Call.short_word (roomy (M.Map.exponent self.old.map) soft.old pending.old bits.old) bytes.now) (plain result) (M.Map.exponent self.old.map) (M.Map.marks self.old.map) self.old.caps self.old.state soft.old pending.old bits.old (M.Map.exponent self.new.map) (M.Map.marks self.new.map) self.new.caps self.new.state soft.new pending.new bits.new }
+        ensures stays { Stays S.Soft.kind (Call.short_word (roomy (M.Map.exponent self.old.map) soft.old pending.old bits.old) bytes.now) (plain result) (M.Map.exponent self.old.map) (M.Map.marks self.old.map) self.old.caps self.old.state (M.Map.exponent self.new.map) (M.Map.marks self.new.map) self.new.caps self.new.state }
     {
         let size = length_of(self.map.n());
         let fits = is_short(bytes.len(), size);
@@ -118,6 +120,7 @@ impl<M: Map + Copy, S: Soft + Copy> Receiver<M, S> {
         ensures goes { Goes S.Soft.kind (M.Map.exponent self.old.map) (M.Map.marks self.old.map) self.old.caps allowance (advance_door self.old.state (roomy (M.Map.exponent self.old.map) soft.old pending.old bits.old)) self.old.state self.new.state soft.old pending.old bits.old soft.new pending.new bits.new (answer_of result) }
         ensures rest { (self.new.map ≡ self.old.map) × (self.new.caps ≡ self.old.caps) }
         ensures law { Continues S.Soft.kind (Call.advance (roomy (M.Map.exponent self.old.map) soft.old pending.old bits.old) allowance) (went_to (answer_of result)) (M.Map.exponent self.old.map) (M.Map.marks self.old.map) self.old.caps self.old.state soft.old pending.old bits.old (M.Map.exponent self.new.map) (M.Map.marks self.new.map) self.new.caps self.new.state soft.new pending.new bits.new }
+        ensures stays { Stays S.Soft.kind (Call.advance (roomy (M.Map.exponent self.old.map) soft.old pending.old bits.old) allowance) (went_to (answer_of result)) (M.Map.exponent self.old.map) (M.Map.marks self.old.map) self.old.caps self.old.state (M.Map.exponent self.new.map) (M.Map.marks self.new.map) self.new.caps self.new.state }
     {
         // that the map has at most 1024 positions
         let _n = self.map.n();
@@ -140,7 +143,11 @@ impl<M: Map + Copy, S: Soft + Copy> Receiver<M, S> {
         ensures rest { (self.new.map ≡ self.old.map) × (self.new.caps ≡ self.old.caps) }
         ensures kept { (soft.new ≡ soft.old) × (pending.new ≡ pending.old) × (bits.new ≡ bits.old) }
         ensures law { Continues S.Soft.kind (Call.take (roomy (M.Map.exponent self.old.map) soft.old pending.old bits.old) (length message.old) (length word.old)) (taken_as result message.new word.new) (M.Map.exponent self.old.map) (M.Map.marks self.old.map) self.old.caps self.old.state soft.old pending.old bits.old (M.Map.exponent self.new.map) (M.Map.marks self.new.map) self.new.caps self.new.state soft.new pending.new bits.new }
+        ensures stays { Stays S.Soft.kind (Call.take (roomy (M.Map.exponent self.old.map) soft.old pending.old bits.old) (length message.old) (length word.old)) (taken_as result message.new word.new) (M.Map.exponent self.old.map) (M.Map.marks self.old.map) self.old.caps self.old.state (M.Map.exponent self.new.map) (M.Map.marks self.new.map) self.new.caps self.new.state }
+        ensures anew { Anew S.Soft.kind (M.Map.exponent self.new.map) (M.Map.marks self.new.map) self.new.caps self.new.state }
     {
+        // that the map means a list of marks
+        let _n = self.map.n();
         self.hand_over(soft, pending, bits, message, word)
     }
 
@@ -150,7 +157,10 @@ impl<M: Map + Copy, S: Soft + Copy> Receiver<M, S> {
         ensures state { self.new.state ≡ in_force (admitted self.old.state Asked.Drop) State.Idle self.old.state }
         ensures rest { (self.new.map ≡ self.old.map) × (self.new.caps ≡ self.old.caps) }
         ensures law { (soft : List S) (steps : List Pending) (row : List ℕ) → Continues S.Soft.kind (Call.drop_word) (plain result) (M.Map.exponent self.old.map) (M.Map.marks self.old.map) self.old.caps self.old.state soft steps row (M.Map.exponent self.new.map) (M.Map.marks self.new.map) self.new.caps self.new.state soft steps row }
+        ensures anew { Anew S.Soft.kind (M.Map.exponent self.new.map) (M.Map.marks self.new.map) self.new.caps self.new.state }
     {
+        // that the map means a list of marks
+        let _n = self.map.n();
         self.end_word()
     }
 }

@@ -1,6 +1,6 @@
 use Rattle.std.proofs.Common.{◌≤◌, refl, subst}
 use Rattle.receiver.specs.Words.{answer_of}
-use Rattle.receiver.proofs.Leads.{continues, same_receiver}
+use Rattle.receiver.proofs.Leads.{continues, same_receiver, advance_stays}
 use Rattle.receiver.proofs.Refines.{agrees_advance}
 use Rattle.receiver.proofs.receiver.Receiver.advance.Goals as goal
 
@@ -17,4 +17,5 @@ returns g c =
           let done = agrees_advance g.S.Soft.kind m _ _ was.caps c.args.allowance was.state c.go_on.new.self.state c.args.soft.now c.go_on.new.soft c.args.pending.now c.go_on.new.pending c.args.bits.now c.go_on.new.bits (answer_of c.go_on.result)
           (subst (λ k. k ≤ 10) c.n-n.ensures.value means.high) agrees inner.goes in
           (done.0, same_receiver g.S.Soft.kind g.M.Map.exponent g.M.Map.marks was.map _ _ _ _ _ _ _ _ _ _ _ _ inner.rest.0 inner.rest.1 refl refl refl refl done.1));
+      stays = advance_stays g.S.Soft.kind g.S.Soft.laws g.M.Map.exponent g.M.Map.marks was.map _ _ _ _ _ _ _ _ _ _ _ _ _ _ inner.rest inner.goes;
     }

@@ -1,5 +1,6 @@
-use Rattle.std.proofs.Common.{refl}
-use Rattle.receiver.proofs.Leads.{continues, same_receiver}
+use Rattle.code.specs.Spans.{Means}
+use Rattle.std.proofs.Common.{refl, sym, subst}
+use Rattle.receiver.proofs.Leads.{continues, same_receiver, anew, take_stays}
 use Rattle.receiver.proofs.Refines.{agrees_take_call}
 use Rattle.receiver.proofs.receiver.Receiver.take.Goals as goal
 
@@ -19,4 +20,9 @@ returns g c =
           let done = agrees_take_call g.S.Soft.kind m _ _ was.caps was.state c.hand_over.new.self.state c.args.soft.now c.args.pending.now c.args.bits.now c.args.message.now c.args.word.now c.hand_over.new.message c.hand_over.new.word c.hand_over.result
           agrees inner.answer inner.word inner.message inner.state in
           (done.0, same_receiver g.S.Soft.kind g.M.Map.exponent g.M.Map.marks was.map _ _ _ _ _ _ _ _ _ _ _ _ inner.rest.0 inner.rest.1 refl inner.kept.0 inner.kept.1 inner.kept.2 done.1));
+      stays = take_stays g.S.Soft.kind g.S.Soft.laws g.M.Map.exponent g.M.Map.marks was.map _ _ _ _ _ _ _ _ _ _ _ inner.rest inner.answer inner.state;
+      anew =
+          let map = c.args.self.now.map in
+          let means = subst (λ k. Means k (g.M.Map.marks map)) c.n-n.ensures.value c.n-n.ensures.means in
+          anew g.S.Soft.kind _ _ _ _ (subst (λ x. Means (g.M.Map.exponent x) (g.M.Map.marks x)) (sym inner.rest.0) means) c.hand_over.new.self.low c.hand_over.new.self.high;
     }
