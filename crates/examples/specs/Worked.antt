@@ -1,7 +1,9 @@
 -- Worked examples, as a table over the definitions that the other contracts cite: cited by `worked_examples`. Assumes nothing.
 use Rattle.std.specs.Prelude.{◌≡◌, ℕ, ◌/◌, ◌%◌, List, [], ◌∷◌, Some, None, Ok, Err, Option, Result}
+use Rattle.std.specs.Option.{option_map}
 use Rattle.code.specs.declared.faults.MapFault.{MapFault}
 use Rattle.code.specs.declared.faults.MapFault.TheVariants.{Rank, Law, Count, Outside}
+use Rattle.code.specs.Faults.{layer_one, report_of}
 use Rattle.code.specs.declared.kinds.SpanKind.{SpanKind}
 use Rattle.code.specs.declared.kinds.SpanKind.TheVariants.{Rate0, Rate1, Rep, Spc}
 use Rattle.code.specs.Orders.{ranks_of, order_fault, ranked_marks, count_fault}
@@ -125,3 +127,12 @@ table =
 -- every row of the table holds
 abbrev pub WorkedExamples : Type 0
 WorkedExamples = AllShow table
+
+-- the refusals of the table, told by number, layer and place: the law at position 1, the rank of position 1, K, and what is no span
+abbrev pub WorkedReports : Type 0
+WorkedReports =
+    (option_map report_of (order_fault 3 (written (7 ∷ 5 ∷ 6 ∷ 3 ∷ 4 ∷ 2 ∷ 1 ∷ 0 ∷ []))) ≡ Some (layer_one 4 1))
+    × (option_map report_of (order_fault 1 (written (1 ∷ 1 ∷ []))) ≡ Some (layer_one 3 1))
+    × (option_map report_of (count_fault 3 9) ≡ Some (layer_one 5 0))
+    × (kind_answer 3 (marks_of mixed 4) 2 4 ≡ Err Outside)
+    × (report_of Outside ≡ layer_one 7 0)

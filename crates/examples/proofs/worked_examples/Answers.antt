@@ -1,5 +1,5 @@
-use Rattle.examples.proofs.Rows.{worked}
+use Rattle.examples.proofs.Rows.{worked, told}
 use Rattle.examples.proofs.worked_examples.Goals as goal
 
 pub returns : goal.returns
-returns c = worked
+returns c = record { rows = worked; reports = told }
