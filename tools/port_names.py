@@ -18,7 +18,8 @@ TYPE = re.compile(r"^\s*(?:abbrev )?(?:pub )?(?:record|data) ([A-Za-z][A-Za-z0-9
 # names that would fall together with another of their crate
 BY_HAND = {
     "folded-once": "folded_once_lem",
-    "join-sign": "join_sign_lem",
+    "join-sign": "join_sign",
+    "joinSign": "sign_of_join",
     "kind-by-looks": "kind_by_looks_lem",
     "word-door": "word_door_lem",
     "text-of": "text_of_lem",

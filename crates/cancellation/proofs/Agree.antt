@@ -5,7 +5,7 @@ use lib.Bits.{bit_xor}
 use lib.ListN.{length-replicate, get_or-replicate, replicate-append-replicate}
 use Rattle.std.proofs.lemmas.List.{take_at, drop_at, get_or-take, get_or-drop}
 use Rattle.std.proofs.lemmas.Bool.{lt-ltb, le-ltb}
-use Rattle.soft.specs.Kind.{Kind, Laws, differ, join_sign}
+use Rattle.soft.specs.Kind.{Kind, Laws, differ, sign_of_join}
 use Rattle.code.specs.declared.kinds.SpanKind.TheVariants.{Rep, Spc}
 use Rattle.code.specs.Spans.{pattern}
 use Rattle.code.specs.Transform.{xor_row, join_halves, transform}
@@ -114,7 +114,7 @@ module _ {S : Type 0} (kind : Kind S) where
         ∙ ap₂ (λ x y. min (kind.size x) (kind.size y)) (get_or-take (2 ^ e) values q kind.fill h) (get_or-drop (2 ^ e) values q kind.fill)
 
     -- with β the XOR of both signs turned, the larger of both decides, b where they are equal
-    against : (s t : Bool) (x y : ℕ) → bit (join_sign (differ s (eqb (bit_xor (bit_xor (bit s) (bit t)) 1) 1)) x t y) ≡ cond (ltb y x) (bit_xor (bit t) 1) (bit t)
+    against : (s t : Bool) (x y : ℕ) → bit (sign_of_join (differ s (eqb (bit_xor (bit_xor (bit s) (bit t)) 1) 1)) x t y) ≡ cond (ltb y x) (bit_xor (bit t) 1) (bit t)
     against s t x y = go s t (ltb y x)
       where
         go : (s t larger : Bool) →
@@ -144,12 +144,12 @@ module _ {S : Type 0} (kind : Kind S) where
     signs_against j (x ∷ xs) [] h e = no_tail x xs e
     signs_against zero (x ∷ xs) (y ∷ ys) h e =
         ap₂ (λ b rest. b ∷ rest)
-        (ap bit (laws.join_sign_lem x y _) ∙ against (kind.sign x) (kind.sign y) (kind.size x) (kind.size y))
+        (ap bit (laws.join_sign x y _) ∙ against (kind.sign x) (kind.sign y) (kind.size x) (kind.size y))
         (signs_join kind laws xs ys (same_tail x xs y ys e))
         ∙ cond_cons (ltb (kind.size y) (kind.size x)) _ _ (signs kind ys)
     signs_against (suc j) (x ∷ xs) (y ∷ ys) h e =
         ap₂ (λ b rest. b ∷ rest)
-        (ap bit (laws.join_sign_lem x y _ ∙ agreed (kind.sign x) (kind.sign y) (kind.size x) (kind.size y)))
+        (ap bit (laws.join_sign x y _ ∙ agreed (kind.sign x) (kind.sign y) (kind.size x) (kind.size y)))
         (signs_against j xs ys (omega arith) (same_tail x xs y ys e))
         ∙ cons_cond (ltb (size_at kind ys j) (size_at kind xs j)) (bit (kind.sign y)) _ _
 

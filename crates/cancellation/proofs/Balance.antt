@@ -4,7 +4,7 @@ use native.Mathlib.Nat.{two-pow-succ}
 use lib.ListN.{length-replicate, replicate-append-replicate, get_or-replicate}
 use Rattle.std.proofs.lemmas.List.{length-append, get_or_append_left, get_or-append_right, ext_get_or}
 use Rattle.std.proofs.lemmas.Bool.{cases_lt, cases_eq, ne_eqb, lt-ltb, le-ltb}
-use Rattle.soft.specs.Kind.{Kind, Laws, differ, agree, join_sign}
+use Rattle.soft.specs.Kind.{Kind, Laws, differ, agree, sign_of_join}
 use Rattle.code.specs.declared.kinds.SpanKind.TheVariants.{Rep}
 use Rattle.code.specs.Spans.{pattern}
 use Rattle.code.specs.Transform.{join_halves, transform}
@@ -68,7 +68,7 @@ module _ (rule : Bool → ℕ → ℕ → ℕ) (limit : ℕ) (adds : Adds limit 
       (weigh true r z + (weigh false s x + weigh false t y) ≡ weigh false r z + (weigh true s x + weigh true t y)) × (z ≤ x + y)
 
   balanced : (s t : Bool) (x y : ℕ) → x + y ≤ limit →
-      Balanced s t x y (join_sign (differ s false) x t y) (rule (agree (differ s false) t) x y)
+      Balanced s t x y (sign_of_join (differ s false) x t y) (rule (agree (differ s false) t) x y)
   balanced true true x y h = let a = adds.0 x y h in (omega arith, omega arith)
   balanced false false x y h = let a = adds.0 x y h in (omega arith, omega arith)
   balanced true false x y h =
@@ -107,7 +107,7 @@ module _ {S : Type 0} (kind : Kind S) where
         Balanced kind.size_rule limit adds (kind.sign x) (kind.sign y) (kind.size x) (kind.size y) (kind.sign j) (kind.size j))
     one_joined x y h =
         subst₂ (λ r z. Balanced kind.size_rule limit adds (kind.sign x) (kind.sign y) (kind.size x) (kind.size y) r z)
-        (sym (laws.join_sign_lem x y false)) (sym (laws.join_size x y false))
+        (sym (laws.join_sign x y false)) (sym (laws.join_size x y false))
         (balanced kind.size_rule limit adds (kind.sign x) (kind.sign y) (kind.size x) (kind.size y) h)
 
     rows_joined : (xs ys : List S) (n : ℕ) → length xs ≡ n → length xs ≡ length ys → total kind xs + total kind ys ≤ limit → BalancedRows xs ys (join_row kind xs ys (replicate n 0))

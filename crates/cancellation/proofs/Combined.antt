@@ -3,7 +3,7 @@ use Rattle.std.proofs.Common.{◌≡◌, ℕ, zero, suc, ◌^◌, ◌<◌, Bool,
 use native.Mathlib.Nat.{two-pow-succ}
 use lib.Bits.{bit_xor}
 use Rattle.std.proofs.lemmas.List.{length-take, length-drop}
-use Rattle.soft.specs.Kind.{Kind, Laws, differ, join_sign}
+use Rattle.soft.specs.Kind.{Kind, Laws, differ, sign_of_join}
 use Rattle.code.specs.Transform.{xor_row}
 use Rattle.cancellation.specs.Rows.{bit, signs, check_row, join_row, left_values, right_values}
 
@@ -22,7 +22,7 @@ module _ {X : Type 0} (e : ℕ) (row : List X) (long : length row ≡ 2 ^ suc e)
   right_long = simp length-drop (omega (arith, two-pow-succ e))
 
 -- with β the XOR of both signs, c and b agree
-pub agreed : (s t : Bool) (x y : ℕ) → join_sign (differ s (eqb (bit_xor (bit s) (bit t)) 1)) x t y ≡ t
+pub agreed : (s t : Bool) (x y : ℕ) → sign_of_join (differ s (eqb (bit_xor (bit s) (bit t)) 1)) x t y ≡ t
 agreed true true x y = refl
 agreed true false x y = refl
 agreed false true x y = refl
@@ -102,5 +102,5 @@ module _ {S : Type 0} (kind : Kind S) where
     signs_join (x ∷ xs) [] e = no_tail x xs e
     signs_join (x ∷ xs) (y ∷ ys) e =
         ap₂ (λ b rest. b ∷ rest)
-        (ap bit (laws.join_sign_lem x y _ ∙ agreed (kind.sign x) (kind.sign y) (kind.size x) (kind.size y)))
+        (ap bit (laws.join_sign x y _ ∙ agreed (kind.sign x) (kind.sign y) (kind.size x) (kind.size y)))
         (signs_join xs ys (same_tail x xs y ys e))

@@ -4,7 +4,7 @@ use native.Mathlib.Nat.{two-pow-succ}
 use Rattle.std.proofs.lemmas.Bool.{leb-true, leb-false, le-leb, lt-leb, cond_both}
 use Rattle.std.proofs.lemmas.Nat.{one_shl}
 use Rattle.soft.specs.declared.whole.Whole.{Whole}
-use Rattle.soft.specs.Kind.{Kind, Laws, differ, agree, join_sign}
+use Rattle.soft.specs.Kind.{Kind, Laws, differ, agree, sign_of_join}
 use Rattle.soft.specs.declared.erasure.Erasure.{Erasure}
 use Rattle.soft.specs.Erasure.{erasure, erasure_laws, larger, of_erasure}
 use Rattle.soft.specs.Whole.{whole, whole_up_to, whole_laws, stop, sum_up_to}
@@ -211,7 +211,7 @@ module _ (higher : ℕ) (above : stop ≤ higher) where
       let c = differ x.sign (eqb β 1) in
       let l = hx.0 in
       let r = hy.0 in
-      let made : ℕ → Whole = λ z. record { sign = join_sign c x.size y.sign y.size; size = z } in
+      let made : ℕ → Whole = λ z. record { sign = sign_of_join c x.size y.sign y.size; size = z } in
       ap₂ (λ z rest. made z ∷ rest) (same_sum (agree c y.sign) x.size y.size (omega arith)) (same_join b xs ys βs h hx.1 hy.1)
 
   same_decided : (marks : List ℕ) (values : List Whole) → decided high marks values ≡ decided whole marks values

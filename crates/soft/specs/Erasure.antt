@@ -1,7 +1,7 @@
 -- Erasures as soft numbers: cited by `ErasureSoft`. Assumes nothing.
 use Rattle.std.specs.Prelude.{◌≡◌, ℕ, min, max, Bool, true, false, cond, Some, None, Option, ◌==◌, refl}
 use Rattle.soft.specs.declared.erasure.Erasure.{Erasure}
-use Rattle.soft.specs.Kind.{Kind, Laws, Meaning, differ, agree, apart, join_sign, meaning_of}
+use Rattle.soft.specs.Kind.{Kind, Laws, Meaning, differ, agree, apart, sign_of_join, meaning_of}
 
 -- the larger size when the signs agree, otherwise the difference
 abbrev pub larger : Bool → ℕ → ℕ → ℕ
@@ -26,7 +26,7 @@ erasure = record {
   sign = λ a. a.sign;
   size = λ a. a.size;
   check = λ a b. of_erasure (differ a.sign b.sign) (min a.size b.size);
-  join = λ a b β. of_erasure (join_sign (differ a.sign β) a.size b.sign b.size)
+  join = λ a b β. of_erasure (sign_of_join (differ a.sign β) a.size b.sign b.size)
       (larger (agree (differ a.sign β) b.sign) a.size b.size);
   size_rule = larger;
   read = read_as of_erasure;
@@ -50,7 +50,7 @@ pub erasure_laws : Laws erasure
 erasure_laws = record {
   check_sign = λ a b. refl;
   check_size = λ a b. refl;
-  join_sign_lem = λ a b β. refl;
+  join_sign = λ a b β. refl;
   join_size = λ a b β. refl;
   read_means = read_means;
   fill_sign = refl;

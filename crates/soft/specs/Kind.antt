@@ -40,8 +40,8 @@ abbrev pub apart : ℕ → ℕ → ℕ
 apart a b = (a - b) + (b - a)
 
 -- the sign of a join: b's, unless c's differs from it and a is larger than b; then c's
-abbrev pub join_sign : Bool → ℕ → Bool → ℕ → Bool
-join_sign c a-size b b-size = cond (differ c b && nat_lt b-size a-size) c b
+abbrev pub sign_of_join : Bool → ℕ → Bool → ℕ → Bool
+sign_of_join c a-size b b-size = cond (differ c b && nat_lt b-size a-size) c b
 
 -- do c and b agree in sign
 abbrev pub agree : Bool → Bool → Bool
@@ -53,7 +53,7 @@ pub record Laws {S : Type 0} (kind : Kind S) : Type 0 where
   pub check_sign : (a b : S) → kind.sign (kind.check a b) ≡ differ (kind.sign a) (kind.sign b)
   pub check_size : (a b : S) → kind.size (kind.check a b) ≡ min (kind.size a) (kind.size b)
   -- law 2, where c's sign is a's, turned if β is 1
-  pub join_sign_lem : (a b : S) (β : Bool) → kind.sign (kind.join a b β) ≡ join_sign (differ (kind.sign a) β) (kind.size a) (kind.sign b) (kind.size b)
+  pub join_sign : (a b : S) (β : Bool) → kind.sign (kind.join a b β) ≡ sign_of_join (differ (kind.sign a) β) (kind.size a) (kind.sign b) (kind.size b)
   -- the size rule
   pub join_size : (a b : S) (β : Bool) → kind.size (kind.join a b β) ≡ kind.size_rule (agree (differ (kind.sign a) β) (kind.sign b)) (kind.size a) (kind.size b)
   -- the reading

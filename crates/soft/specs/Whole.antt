@@ -1,7 +1,7 @@
 -- Whole numbers as soft numbers: cited by `WholeSoft`. Assumes nothing.
 use Rattle.std.specs.Prelude.{ℕ, ◌+◌, ◌%◌, min, Bool, false, cond, Some, nat_le, refl}
 use Rattle.soft.specs.declared.whole.Whole.{Whole}
-use Rattle.soft.specs.Kind.{Kind, Laws, Meaning, differ, agree, apart, join_sign}
+use Rattle.soft.specs.Kind.{Kind, Laws, Meaning, differ, agree, apart, sign_of_join}
 
 -- where a sum stops
 abbrev pub stop : ℕ
@@ -22,7 +22,7 @@ whole_up_to limit = record {
   size = λ a. a.size;
   check = λ a b. record { sign = differ a.sign b.sign; size = min a.size b.size };
   join = λ a b β. record {
-    sign = join_sign (differ a.sign β) a.size b.sign b.size;
+    sign = sign_of_join (differ a.sign β) a.size b.sign b.size;
     size = sum_up_to limit (agree (differ a.sign β) b.sign) a.size b.size;
   };
   size_rule = sum_up_to limit;
@@ -40,7 +40,7 @@ pub whole_laws : (limit : ℕ) → Laws (whole_up_to limit)
 whole_laws limit = record {
   check_sign = λ a b. refl;
   check_size = λ a b. refl;
-  join_sign_lem = λ a b β. refl;
+  join_sign = λ a b β. refl;
   join_size = λ a b β. refl;
   read_means = λ byte. refl;
   fill_sign = refl;
