@@ -1,4 +1,4 @@
--- Erasures as soft numbers: cited by `ErasureSoft`. Assumes nothing.
+-- Erasures as soft numbers: cited by `Soft` for `Erasure`. Assumes nothing.
 use Rattle.std.specs.Prelude.{◌≡◌, ℕ, min, max, Bool, true, false, cond, Some, None, Option, ◌==◌, refl}
 use Rattle.soft.specs.declared.erasure.Erasure.{Erasure}
 use Rattle.soft.specs.Kind.{Kind, Laws, Meaning, differ, agree, apart, sign_of_join, meaning_of}

@@ -1,4 +1,4 @@
--- Whole numbers as soft numbers: cited by `WholeSoft`. Assumes nothing.
+-- Whole numbers as soft numbers: cited by `Soft` for `Whole`. Assumes nothing.
 use Rattle.std.specs.Prelude.{ℕ, ◌+◌, ◌%◌, min, Bool, false, cond, Some, nat_le, refl}
 use Rattle.soft.specs.declared.whole.Whole.{Whole}
 use Rattle.soft.specs.Kind.{Kind, Laws, Meaning, differ, agree, apart, sign_of_join}
