@@ -33,7 +33,7 @@ fn run(rt: &HostRuntime) -> anyhow::Result<()> {
     let shelf = read_shelf(rt)?;
     let text = transcript(rt.alloc(), session.as_slice(), shelf.as_slice())?;
     let mut out = rt.stdout();
-    out.write_all(text.as_slice())?;
+    out.write_all(text.as_bytes())?;
     out.flush()?;
     Ok(())
 }

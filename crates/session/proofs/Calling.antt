@@ -28,10 +28,11 @@ use Rattle.session.specs.declared.commands.Make.TheVariants.{Ranked, Listed}
 use Rattle.session.specs.declared.faults.SessionFault.{SessionFault}
 use Rattle.session.specs.declared.faults.SessionFault.TheVariants as fault
 use Rattle.session.specs.declared.state.State.{State}
-use Rattle.session.specs.declared.state.Answer.{Answer}
+use Rattle.session.specs.declared.answers.Answer.{Answer}
 use Rattle.session.specs.Chosen.{exponent_of, marks_of}
+use Rattle.session.specs.Answers.{answer_of}
 use Rattle.session.specs.Sessions.{InForce, Done, told, choose, do_call, do_caps, do_drop, do_advance, do_take}
-use Rattle.session.specs.States.{Room, Stands, answer_of, Did}
+use Rattle.session.specs.States.{Room, Stands, Did}
 use Rattle.session.proofs.Doing.{SameOrder, Agreed, call_did, map_did, map_refused}
 
 -- the map in force means a list of marks
@@ -77,9 +78,9 @@ pub fits_short : (bytes : List ℕ) (n : ℕ) → short_length n (length bytes) 
 fits_short bytes n e = leb-true (length bytes) (2 ^ n) (and_parts (leb 1 (length bytes)) (leb (length bytes) (2 ^ n)) e).1
 
 -- a receiver's fault that a `?` handed up
-pub handed_up : (r : Result Answer SessionFault) (f : ReceiverFault) (messages words : List ℕ) → IsErrAnd r (λ e. e ≡ fault.Receiver f) → answer_of messages words r ≡ Err (fault.Receiver f)
-handed_up (Ok x) f messages words h = absurd h
-handed_up (Err e) f messages words h = ap Err h
+pub handed_up : (r : Result Answer SessionFault) (f : ReceiverFault) → IsErrAnd r (λ e. e ≡ fault.Receiver f) → answer_of r ≡ Err (fault.Receiver f)
+handed_up (Ok x) f h = absurd h
+handed_up (Err e) f h = ap Err h
 
 -- an answer that was given otherwise
 pub did_as : {S : Type 0} (kind : Kind S) (d : Done S) (r r' : Result (List (List ℕ)) SessionFault) (state : State S) (soft : List S) (steps : List Step) (row : List ℕ) →

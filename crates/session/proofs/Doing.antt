@@ -1,6 +1,5 @@
 -- What commands do to the state of a session, over plain values.
 use Rattle.std.proofs.Common.{◌≡◌, ℕ, Bool, true, false, List, [], ◌∷◌, ◌++◌, length, take, Some, None, Ok, Err, decimal, Option, Result, sym, refl, ap, ◌∙◌, subst, arith}
-use Rattle.std.proofs.lemmas.List.{take_at}
 use Rattle.code.specs.declared.faults.MapFault.{MapFault}
 use Rattle.code.specs.Encode.{informed_count, encode_fault, encoded}
 use Rattle.code.specs.Orders.{count_fault, ranks_of, ranked_marks}
@@ -21,7 +20,7 @@ use Rattle.session.specs.Chosen.{exponent_of, marks_of}
 use Rattle.session.specs.Faults.{of_map}
 use Rattle.session.specs.Sessions.{InForce, refuse, told, chosen_in, choose, encoded_in, reply, called_in, do_call, do_order}
 use Rattle.session.specs.States.{Room, Stands, Did}
-use Rattle.session.specs.Text.{bits_text, message_text}
+use Rattle.session.specs.Text.{bits_text}
 
 -- the receiver of a state, with its memory, is as a model says
 abbrev pub Agreed : {S : Type 0} → Kind S → Model S → State S → List S → List Step → List ℕ → Type 0
@@ -102,12 +101,11 @@ module _ {S : Type 0} (kind : Kind S) (s : InForce S) (state : State S) (soft : 
   choose_refused None n marks f e = let z : ◌≡◌ {A = ℕ} 0 1 = cc in absurd (omega arith)
   choose_refused (Some g) n marks f e = let w : f ≡ g = cc in rw w (refused_did (of_map g))
 
--- a word that was encoded into the first bytes of a memory is the answer
-pub word_done : {S : Type 0} (kind : Kind S) (o : Option MapFault) (word before last post : List ℕ) (size : ℕ) (s : InForce S) (state : State S) (soft : List S) (steps : List Step) (row : List ℕ) →
-    Stands kind s state soft steps row → length last ≡ size → Ok tt ≡ answer_to o → last ≡ in_force o word before →
-    Did kind (reply o word s) (Ok (bits_text (take size (last ++ post)) ∷ [])) state soft steps row
-word_done kind None word before last post size s state soft steps row st long e f = rw (take_at last post size long, f) (record { answer = refl; after = st })
-word_done kind (Some g) word before last post size s state soft steps row st long e f = let z : ◌≡◌ {A = ℕ} 0 1 = cc in absurd (omega arith)
+-- a word that was encoded is the answer
+pub word_done : {S : Type 0} (kind : Kind S) (o : Option MapFault) (word before last : List ℕ) (s : InForce S) (state : State S) (soft : List S) (steps : List Step) (row : List ℕ) →
+    Stands kind s state soft steps row → Ok tt ≡ answer_to o → last ≡ in_force o word before → Did kind (reply o word s) (Ok (bits_text last ∷ [])) state soft steps row
+word_done kind None word before last s state soft steps row st e f = rw f (record { answer = refl; after = st })
+word_done kind (Some g) word before last s state soft steps row st e f = let z : ◌≡◌ {A = ℕ} 0 1 = cc in absurd (omega arith)
 
 -- a message that was refused
 pub word_refused : {S : Type 0} (kind : Kind S) (o : Option MapFault) (word : List ℕ) (f : MapFault) (s : InForce S) (state : State S) (soft : List S) (steps : List Step) (row : List ℕ) →
@@ -131,22 +129,17 @@ ranked_did kind at k n ranks s a state soft steps row o e d =
     subst (λ (x : Option (ℕ × List ℕ)). Did kind (elim x [ None ↦ refuse (fault.NoOrder at) s | Some y ↦ choose kind (count_fault y.0 k) y.0 (ranked_marks (ranks_of y.1) k) s ]) a state soft steps row) (sym e) d
 
 -- a message that was encoded by the map in force
-pub encode_did : {S : Type 0} (kind : Kind S) (s : InForce S) (state : State S) (soft : List S) (steps : List Step) (row : List ℕ) (st : Stands kind s state soft steps row) (at : ℕ) (message : List ℕ) (map : Chosen) (before last post : List ℕ) (size room : ℕ) →
-    state.mapped ≡ true → map ≡ state.receiver.map → length last ≡ size → room ≡ length (marks_of map) → Ok tt ≡ answer_to (encode_fault (marks_of map) message room) →
+pub encode_did : {S : Type 0} (kind : Kind S) (s : InForce S) (state : State S) (soft : List S) (steps : List Step) (row : List ℕ) (st : Stands kind s state soft steps row) (at : ℕ) (message : List ℕ) (map : Chosen) (before last : List ℕ) (room : ℕ) →
+    state.mapped ≡ true → map ≡ state.receiver.map → room ≡ length (marks_of map) → Ok tt ≡ answer_to (encode_fault (marks_of map) message room) →
     last ≡ in_force (encode_fault (marks_of map) message room) (encoded (exponent_of map) (marks_of map) message) before →
-    Did kind (encoded_in at message s s.receiver) (Ok (bits_text (take size (last ++ post)) ∷ [])) state soft steps row
-encode_did {S} kind s state soft steps row st at message map before last post size room mapped map_is long room-is e f =
-    let a : Result (List (List ℕ)) SessionFault = Ok (bits_text (take size (last ++ post)) ∷ []) in
-    let d = word_done kind (encode_fault (marks_of map) message room) (encoded (exponent_of map) (marks_of map) message) before last post size s state soft steps row st long e f in
+    Did kind (encoded_in at message s s.receiver) (Ok (bits_text last ∷ [])) state soft steps row
+encode_did {S} kind s state soft steps row st at message map before last room mapped map_is room-is e f =
+    let a : Result (List (List ℕ)) SessionFault = Ok (bits_text last ∷ []) in
+    let d = word_done kind (encode_fault (marks_of map) message room) (encoded (exponent_of map) (marks_of map) message) before last s state soft steps row st e f in
     let d1 = subst (λ x. Did kind (reply (encode_fault (marks_of map) message x) (encoded (exponent_of map) (marks_of map) message) s) a state soft steps row) room-is d in
     let d2 = subst (λ x. Did kind (reply (encode_fault x message (length x)) (encoded (exponent_of map) x message) s) a state soft steps row) (ap marks_of map_is ∙ sym st.agrees.marks_are) d1 in
     let d3 = subst (λ x. Did kind (reply (encode_fault st.model.marks message (length st.model.marks)) (encoded x st.model.marks message) s) a state soft steps row) (ap exponent_of map_is ∙ sym st.agrees.n_is) d2 in
     subst (λ (o : Option (Model S)). Did kind (encoded_in at message s o) a state soft steps row) (sym (there kind s state soft steps row st mapped)) d3
-
--- a message and a word that stand first in their memories
-pub taken_shown : (k a b : ℕ) (message rest word others : List ℕ) → length message ≡ a → length word ≡ b →
-    ◌≡◌ {A = Result (List (List ℕ)) SessionFault} (Ok (decimal k ∷ (message_text (take a (message ++ rest)) ∷ (bits_text (take b (word ++ others)) ∷ [])))) (Ok (decimal k ∷ (message_text message ∷ (bits_text word ∷ []))))
-taken_shown k a b message rest word others e f = rw (take_at message rest a e, take_at word others b f)
 
 -- the bytes of an order, by another name
 pub order_as : {S : Type 0} (kind : Kind S) (n : ℕ) (bytes bytes' : List ℕ) (s : InForce S) (a : Result (List (List ℕ)) SessionFault) (state : State S) (soft : List S) (steps : List Step) (row : List ℕ) →

@@ -8,12 +8,11 @@ use Rattle.receiver.specs.Model.{Model, fresh}
 use Rattle.session.specs.declared.faults.SessionFault.{SessionFault}
 use Rattle.session.specs.declared.interpreter.Opened.{Opened}
 use Rattle.session.specs.declared.state.State.{State}
-use Rattle.session.specs.declared.state.Answer.{Answer}
-use Rattle.session.specs.declared.state.Answer.TheVariants.{Nothing, Number, Pair, Word, Taken}
+use Rattle.session.specs.declared.answers.Answer.{Answer}
+use Rattle.session.specs.Answers.{answer_of}
 use Rattle.session.specs.Chosen.{exponent_of, marks_of}
 use Rattle.session.specs.Commands.{Request, slot, order, ranked, listed, encode, caps, word, short_word, advance, taking, dropping}
 use Rattle.session.specs.Sessions.{InForce, Done, Opening}
-use Rattle.session.specs.Text.{bits_text, message_text}
 
 -- the work memory is large enough for every code
 pub record Room {S : Type 0} (soft : List S) (steps : List Step) (row : List ℕ) : Type 0 where
@@ -30,38 +29,19 @@ pub record Stands {S : Type 0} (kind : Kind S) (s : InForce S) (state : State S)
   pub agrees : Agrees kind model (exponent_of state.receiver.map) (marks_of state.receiver.map) state.receiver.caps state.receiver.state soft steps row
   pub room : Room soft steps row
 
--- the fields that an answer adds to its line; a message and a word stand first in their memories
-abbrev pub fields_of : List ℕ → List ℕ → Answer → List (List ℕ)
-fields_of messages words Nothing = []
-fields_of messages words (Number k) = decimal k ∷ []
-fields_of messages words (Pair a b) = decimal a ∷ (decimal b ∷ [])
-fields_of messages words (Word k) = bits_text (take k words) ∷ []
-fields_of messages words (Taken steps m k) = decimal steps ∷ (message_text (take m messages) ∷ (bits_text (take k words) ∷ []))
-
--- what a command answered
-abbrev pub answer_of : List ℕ → List ℕ → Result Answer SessionFault → Result (List (List ℕ)) SessionFault
-answer_of messages words (Ok a) = Ok (fields_of messages words a)
-answer_of messages words (Err f) = Err f
-
 -- a command answered what it should, and left the state and its work memory so
 pub record Did {S : Type 0} (kind : Kind S) (d : Done S) (r : Result (List (List ℕ)) SessionFault) (state : State S) (soft : List S) (steps : List Step) (row : List ℕ) : Type 0 where
   pub answer : r ≡ d.answer
   pub after : Stands kind d.after state soft steps row
 
--- what a command that leaves the work memory alone does, whatever is in force and in memory
-abbrev pub Does : {S : Type 0} → Kind S → (InForce S → Done S) → Result Answer SessionFault → State S → State S → Type 0
-Does {S} kind d r state state' = (s : InForce S) (soft : List S) (steps : List Step) (row : List ℕ) (messages words : List ℕ) →
-    Stands kind s state soft steps row → Did kind (d s) (answer_of messages words r) state' soft steps row
-
 -- what a command that works in memory does, whatever is in force
 abbrev pub Works : {S : Type 0} → Kind S → (InForce S → Done S) → Result Answer SessionFault → State S → List S → List Step → List ℕ → State S → List S → List Step → List ℕ → Type 0
-Works {S} kind d r state soft steps row state' soft' steps' row' = (s : InForce S) (messages words : List ℕ) →
-    Stands kind s state soft steps row → Did kind (d s) (answer_of messages words r) state' soft' steps' row'
+Works {S} kind d r state soft steps row state' soft' steps' row' = (s : InForce S) →
+    Stands kind s state soft steps row → Did kind (d s) (answer_of r) state' soft' steps' row'
 
--- the same, of one that may write the message and the word memory
-abbrev pub Writes : {S : Type 0} → Kind S → (InForce S → Done S) → List ℕ → List ℕ → Result Answer SessionFault → State S → List S → List Step → List ℕ → State S → List S → List Step → List ℕ → Type 0
-Writes {S} kind d messages words r state soft steps row state' soft' steps' row' = (s : InForce S) →
-    Stands kind s state soft steps row → Did kind (d s) (answer_of messages words r) state' soft' steps' row'
+-- what a command that leaves the work memory alone does, whatever is in memory
+abbrev pub Does : {S : Type 0} → Kind S → (InForce S → Done S) → Result Answer SessionFault → State S → State S → Type 0
+Does {S} kind d r state state' = (s : InForce S) (soft : List S) (steps : List Step) (row : List ℕ) → Stands kind s state soft steps row → Did kind (d s) (answer_of r) state' soft steps row
 
 -- the ranks that an order command keeps stand in the session, after its letter and its n
 abbrev pub Placed : List ℕ → ℕ → Request → Type 0

@@ -4,8 +4,10 @@ ghost use Rattle.receiver.specs.declared.memory.Step.{Step as Pending};
 ghost use Rattle.session.specs.Chosen.{exponent_of, marks_of};
 ghost use Rattle.session.specs.Commands.{request_of};
 ghost use Rattle.session.specs.Sessions.{InForce, nothing, sizes_in, choose, do_order, do_slot, do_ranked, do_listed, do_encode, do_caps, do_word, do_short_word, do_advance, do_take, do_drop, perform};
-ghost use Rattle.session.specs.States.{Stands, Room, Did, Does, Works, Writes, Placed, answer_of};
+ghost use Rattle.session.specs.Answers.{answer_of};
+ghost use Rattle.session.specs.States.{Stands, Room, Did, Does, Works, Placed};
 
+use crate::answers::{Answer, Buffers};
 use crate::chosen::Chosen;
 use crate::commands::{Command, Sizes};
 use crate::faults::SessionFault;
@@ -25,16 +27,6 @@ pub(crate) struct State<'a, S> {
     pub(crate) order: Order<'a>,
     pub(crate) mapped: bool,
     pub(crate) receiver: Receiver<Chosen<'a>, S>,
-}
-
-// What the line of a command that was done adds: nothing, numbers, the first bits of the word memory, or the count of steps with the first bits of the message memory and of the word memory.
-#[derive(Clone, Copy)]
-pub(crate) enum Answer {
-    Nothing,
-    Number(usize),
-    Pair(usize, usize),
-    Word(usize),
-    Taken(usize, usize, usize),
 }
 
 // 1 for yes, 0 for no.
@@ -71,7 +63,7 @@ impl<'a, S: Soft + Copy> State<'a, S> {
     }
 
     // `O`, and the order that an `S` finds.
-    fn put_order(&mut self, n: u8, bytes: &'a [u8]) -> Result<Answer, SessionFault>
+    fn put_order(&mut self, n: u8, bytes: &'a [u8]) -> Result<Answer<'static>, SessionFault>
         ensures { Does S.Soft.kind (do_order n bytes.now) result self.old self.new }
     {
         self.order.read(n, bytes)?;
@@ -86,7 +78,7 @@ impl<'a, S: Soft + Copy> State<'a, S> {
         slot: u8,
         session: &'a [u8],
         shelf: &'a [u8],
-    ) -> Result<Answer, SessionFault>
+    ) -> Result<Answer<'static>, SessionFault>
         ensures { Does S.Soft.kind (do_slot shelf.now at slot) result self.old self.new }
     {
         let Some(record) = find_slot(shelf, slot) else {
@@ -97,7 +89,7 @@ impl<'a, S: Soft + Copy> State<'a, S> {
     }
 
     // A map that was made: the receiver is remapped. Before the first map it is a new one, which is always remapped.
-    fn put_map(&mut self, map: Chosen<'a>) -> Result<Answer, SessionFault>
+    fn put_map(&mut self, map: Chosen<'a>) -> Result<Answer<'static>, SessionFault>
         ensures { Does S.Soft.kind (choose S.Soft.kind NoFault (exponent_of map.entry) (marks_of map.entry)) result self.old self.new }
     {
         self.receiver.remap(map)?;
@@ -106,7 +98,7 @@ impl<'a, S: Soft + Copy> State<'a, S> {
     }
 
     // `K`
-    fn put_ranked(&mut self, at: usize, k: u16) -> Result<Answer, SessionFault>
+    fn put_ranked(&mut self, at: usize, k: u16) -> Result<Answer<'static>, SessionFault>
         ensures { Does S.Soft.kind (do_ranked S.Soft.kind at k) result self.old self.new }
     {
         if !self.ordered {
@@ -119,7 +111,7 @@ impl<'a, S: Soft + Copy> State<'a, S> {
     }
 
     // `L`
-    fn put_listed(&mut self, n: u8, marks: &'a [u8]) -> Result<Answer, SessionFault>
+    fn put_listed(&mut self, n: u8, marks: &'a [u8]) -> Result<Answer<'static>, SessionFault>
         ensures { Does S.Soft.kind (do_listed S.Soft.kind n marks.now) result self.old self.new }
     {
         let mut map = self.receiver.map();
@@ -128,7 +120,12 @@ impl<'a, S: Soft + Copy> State<'a, S> {
     }
 
     // `B`
-    fn put_caps(&mut self, at: usize, first: u8, second: u8) -> Result<Answer, SessionFault>
+    fn put_caps(
+        &mut self,
+        at: usize,
+        first: u8,
+        second: u8,
+    ) -> Result<Answer<'static>, SessionFault>
         ensures { Does S.Soft.kind (do_caps S.Soft.kind at first second) result self.old self.new }
     {
         if !self.mapped {
@@ -139,7 +136,7 @@ impl<'a, S: Soft + Copy> State<'a, S> {
     }
 
     // `X`
-    fn drop_word(&mut self, at: usize) -> Result<Answer, SessionFault>
+    fn drop_word(&mut self, at: usize) -> Result<Answer<'static>, SessionFault>
         ensures { Does S.Soft.kind (do_drop S.Soft.kind at) result self.old self.new }
     {
         if !self.mapped {
@@ -157,7 +154,7 @@ impl<'a, S: Soft + Copy> State<'a, S> {
         soft: &mut [S],
         pending: &mut [Step],
         bits: &mut [u8],
-    ) -> Result<Answer, SessionFault>
+    ) -> Result<Answer<'static>, SessionFault>
         ensures { Works S.Soft.kind (do_word S.Soft.kind at bytes.now) result self.old soft.old pending.old bits.old self.new soft.new pending.new bits.new }
     {
         if !self.mapped {
@@ -175,7 +172,7 @@ impl<'a, S: Soft + Copy> State<'a, S> {
         soft: &mut [S],
         pending: &mut [Step],
         bits: &mut [u8],
-    ) -> Result<Answer, SessionFault>
+    ) -> Result<Answer<'static>, SessionFault>
         ensures { Works S.Soft.kind (do_short_word S.Soft.kind at bytes.now) result self.old soft.old pending.old bits.old self.new soft.new pending.new bits.new }
     {
         if !self.mapped {
@@ -193,7 +190,7 @@ impl<'a, S: Soft + Copy> State<'a, S> {
         soft: &mut [S],
         pending: &mut [Step],
         bits: &mut [u8],
-    ) -> Result<Answer, SessionFault>
+    ) -> Result<Answer<'static>, SessionFault>
         ensures { Works S.Soft.kind (do_advance S.Soft.kind at allowance) result self.old soft.old pending.old bits.old self.new soft.new pending.new bits.new }
     {
         if !self.mapped {
@@ -204,18 +201,17 @@ impl<'a, S: Soft + Copy> State<'a, S> {
     }
 
     // `T`
-    fn take(
+    fn take<'b>(
         &mut self,
         at: usize,
         soft: &mut [S],
         pending: &mut [Step],
         bits: &mut [u8],
-        message: &mut [u8],
-        word: &mut [u8],
-    ) -> Result<Answer, SessionFault>
-        requires message { length message.old ≡ 1024 }
-        requires word { length word.old ≡ 1024 }
-        ensures { Writes S.Soft.kind (do_take S.Soft.kind at) message.new word.new result self.old soft.old pending.old bits.old self.new soft.new pending.new bits.new }
+        buffers: Buffers<'b>,
+    ) -> Result<Answer<'b>, SessionFault>
+        requires message { length buffers.message.now ≡ 1024 }
+        requires word { length buffers.word.now ≡ 1024 }
+        ensures { Works S.Soft.kind (do_take S.Soft.kind at) result self.old soft.old pending.old bits.old self.new soft.new pending.new bits.new }
     {
         if !self.mapped {
             return Err(SessionFault::NoMap(at));
@@ -223,32 +219,34 @@ impl<'a, S: Soft + Copy> State<'a, S> {
         let map = self.receiver.map();
         let informed = informed_count(&map);
         let positions = two_to(map.n());
-        let steps = self.receiver.take(
-            soft,
-            pending,
-            bits,
-            &mut message[0..informed],
-            &mut word[0..positions],
-        )?;
-        Ok(Answer::Taken(steps as usize, informed, positions))
+        let Buffers { message, word } = buffers;
+        let message = &mut message[0..informed];
+        let word = &mut word[0..positions];
+        let steps = self.receiver.take(soft, pending, bits, message, word)?;
+        Ok(Answer::Taken(steps, message, word))
     }
 
     // `E`
-    fn encode(&self, at: usize, message: &[u8], word: &mut [u8]) -> Result<Answer, SessionFault>
+    fn encode<'b>(
+        &self,
+        at: usize,
+        message: &[u8],
+        word: &'b mut [u8],
+    ) -> Result<Answer<'b>, SessionFault>
         requires { length word.old ≡ 1024 }
-        ensures { (s : InForce S) (soft : List S) (steps : List Pending) (row : List ℕ) (messages : List ℕ) → Stands S.Soft.kind s self.now soft steps row → Did S.Soft.kind (do_encode at message.now s) (answer_of messages word.new result) self.now soft steps row }
+        ensures { Does S.Soft.kind (do_encode at message.now) result self.now self.now }
     {
         if !self.mapped {
             return Err(SessionFault::NoMap(at));
         }
         let map = self.receiver.map();
-        let size = two_to(map.n());
-        encode(&map, message, &mut word[0..size])?;
-        Ok(Answer::Word(size))
+        let word = &mut word[0..two_to(map.n())];
+        encode(&map, message, word)?;
+        Ok(Answer::Word(word))
     }
 
     // Does what a command asks, whose letter stands at offset `at`.
-    pub(crate) fn run(
+    pub(crate) fn run<'b>(
         &mut self,
         command: Command<'a>,
         at: usize,
@@ -257,13 +255,12 @@ impl<'a, S: Soft + Copy> State<'a, S> {
         soft: &mut [S],
         pending: &mut [Step],
         bits: &mut [u8],
-        message: &mut [u8],
-        word: &mut [u8],
-    ) -> Result<Answer, SessionFault>
-        requires messages { length message.old ≡ 1024 }
-        requires words { length word.old ≡ 1024 }
+        buffers: Buffers<'b>,
+    ) -> Result<Answer<'b>, SessionFault>
+        requires message { length buffers.message.now ≡ 1024 }
+        requires word { length buffers.word.now ≡ 1024 }
         requires placed { Placed session.now at (request_of command) }
-        ensures { Writes S.Soft.kind (perform S.Soft.kind shelf.now at (request_of command.entry)) message.new word.new result self.old soft.old pending.old bits.old self.new soft.new pending.new bits.new }
+        ensures { Works S.Soft.kind (perform S.Soft.kind shelf.now at (request_of command.entry)) result self.old soft.old pending.old bits.old self.new soft.new pending.new bits.new }
     {
         match command {
             Command::Slot { slot } => self.put_slot(at, slot, session, shelf),
@@ -273,12 +270,12 @@ impl<'a, S: Soft + Copy> State<'a, S> {
             }
             Command::Ranked { k } => self.put_ranked(at, k),
             Command::Listed { n, marks } => self.put_listed(n, marks),
-            Command::Encode { message } => self.encode(at, message, word),
+            Command::Encode { message } => self.encode(at, message, buffers.word),
             Command::Caps { first, second } => self.put_caps(at, first, second),
             Command::Word { bytes } => self.word(at, bytes, soft, pending, bits),
             Command::ShortWord { bytes } => self.short_word(at, bytes, soft, pending, bits),
             Command::Advance { allowance } => self.advance(at, allowance, soft, pending, bits),
-            Command::Take => self.take(at, soft, pending, bits, message, word),
+            Command::Take => self.take(at, soft, pending, bits, buffers),
             Command::Drop => self.drop_word(at),
         }
     }

@@ -1,4 +1,4 @@
-use Rattle.std.proofs.Common.{◌++◌, length, vec_items}
+use Rattle.std.proofs.Common.{◌++◌, length, string_bytes}
 use Rattle.session.specs.Sessions.{lines_from, nothing}
 use Rattle.session.proofs.Turns.{Between}
 use Rattle.session.proofs.interpreter.push_lines.Given as goal
@@ -6,8 +6,8 @@ use Rattle.session.proofs.interpreter.push_lines.Given as goal
 abbrev pub invariant-loop-rest : goal.invariant-loop-rest
 invariant-loop-rest g l =
     Between g.S.Soft.kind l.make l.session l.shelf
-    (vec_items l.initial.text ++ lines_from g.S.Soft.kind (length l.commands) l.make l.shelf (length l.session) 0 l.commands nothing)
-    (vec_items l.text) l.rest l.message l.word l.number l.state l.soft l.pending l.bits
+    (string_bytes l.initial.text ++ lines_from g.S.Soft.kind (length l.commands) l.make l.shelf (length l.session) 0 l.commands nothing)
+    (string_bytes l.text) l.rest l.number l.state l.soft l.pending l.bits
 
 abbrev pub decreases-loop-rest : goal.decreases-loop-rest
 decreases-loop-rest g l = length l.rest
