@@ -1,5 +1,5 @@
 -- What commands do to the state of a session, over plain values.
-use Rattle.std.proofs.Common.{◌≡◌, ℕ, Bool, true, false, List, [], ◌∷◌, ◌++◌, length, take, Some, None, Ok, Err, decimal, Option, Result, sym, refl, ap, ◌∙◌, subst, arith}
+use Rattle.std.proofs.Common.{◌≡◌, ℕ, Bool, true, false, List, [], ◌∷◌, length, Some, None, Ok, Err, decimal, Option, Result, sym, refl, ap, ◌∙◌, subst, arith}
 use Rattle.code.specs.declared.faults.MapFault.{MapFault}
 use Rattle.code.specs.Encode.{informed_count, encode_fault, encoded}
 use Rattle.code.specs.Orders.{count_fault, ranks_of, ranked_marks}
@@ -17,7 +17,6 @@ use Rattle.session.specs.declared.chosen.Chosen.{Chosen}
 use Rattle.session.specs.declared.shelf.Record.{Record}
 use Rattle.session.specs.declared.state.State.{State}
 use Rattle.session.specs.Chosen.{exponent_of, marks_of}
-use Rattle.session.specs.Faults.{of_map}
 use Rattle.session.specs.Sessions.{InForce, refuse, told, chosen_in, choose, encoded_in, reply, called_in, do_call, do_order}
 use Rattle.session.specs.States.{Room, Stands, Did}
 use Rattle.session.specs.Text.{bits_text}
@@ -39,14 +38,6 @@ module _ {S : Type 0} (kind : Kind S) (s : InForce S) (state : State S) (soft : 
   -- no receiver before it
   pub lacking : state.mapped ≡ false → s.receiver ≡ None
   lacking h = rw h at st.receiver
-
-  -- a refusal leaves all
-  pub refused_did : (f : SessionFault) → Did kind (refuse f s) (Err f) state soft steps row
-  refused_did f = record { answer = refl; after = st }
-
-  -- a call without a map
-  pub call_lacking : (at : ℕ) (more : List (List ℕ)) (asks : Model S → Call) → state.mapped ≡ false → Did kind (do_call kind at more asks s) (Err (fault.NoMap at)) state soft steps row
-  call_lacking at more asks h = subst (λ (o : Option (Model S)). Did kind (called_in kind at more asks s o) (Err (fault.NoMap at)) state soft steps row) (sym (lacking h)) (refused_did (fault.NoMap at))
 
   -- the state with an order as before, and with a receiver
   pub stands_with : (m : Model S) (state' : State S) (soft' : List S) (steps' : List Step) (row' : List ℕ) → state'.mapped ≡ true → SameOrder state state' →
@@ -96,22 +87,11 @@ module _ {S : Type 0} (kind : Kind S) (s : InForce S) (state : State S) (soft : 
   choose_did None n n' old marks marks' oldMarks r state' e p q d = subst (λ x. Did kind (choose kind None x marks s) r state' soft steps row) p (subst (λ x. Did kind (choose kind None n' x s) r state' soft steps row) q d)
   choose_did (Some f) n n' old marks marks' oldMarks r state' e p q d = let z : ◌≡◌ {A = ℕ} 0 1 = cc in absurd (omega arith)
 
-  -- a map whose questions found a fault
-  pub choose_refused : (o : Option MapFault) (n : ℕ) (marks : List ℕ) (f : MapFault) → Err f ≡ answer_to o → Did kind (choose kind o n marks s) (Err (of_map f)) state soft steps row
-  choose_refused None n marks f e = let z : ◌≡◌ {A = ℕ} 0 1 = cc in absurd (omega arith)
-  choose_refused (Some g) n marks f e = let w : f ≡ g = cc in rw w (refused_did (of_map g))
-
 -- a word that was encoded is the answer
 pub word_done : {S : Type 0} (kind : Kind S) (o : Option MapFault) (word before last : List ℕ) (s : InForce S) (state : State S) (soft : List S) (steps : List Step) (row : List ℕ) →
     Stands kind s state soft steps row → Ok tt ≡ answer_to o → last ≡ in_force o word before → Did kind (reply o word s) (Ok (bits_text last ∷ [])) state soft steps row
 word_done kind None word before last s state soft steps row st e f = rw f (record { answer = refl; after = st })
 word_done kind (Some g) word before last s state soft steps row st e f = let z : ◌≡◌ {A = ℕ} 0 1 = cc in absurd (omega arith)
-
--- a message that was refused
-pub word_refused : {S : Type 0} (kind : Kind S) (o : Option MapFault) (word : List ℕ) (f : MapFault) (s : InForce S) (state : State S) (soft : List S) (steps : List Step) (row : List ℕ) →
-    Stands kind s state soft steps row → Err f ≡ answer_to o → Did kind (reply o word s) (Err (of_map f)) state soft steps row
-word_refused kind None word f s state soft steps row st e = let z : ◌≡◌ {A = ℕ} 0 1 = cc in absurd (omega arith)
-word_refused kind (Some g) word f s state soft steps row st e = let w : f ≡ g = cc in rw w (record { answer = refl; after = st })
 
 -- an order that a slot holds
 pub slot_did : {S : Type 0} (kind : Kind S) (shelf : List ℕ) (at : ℕ) (s : InForce S) (a : Result (List (List ℕ)) SessionFault) (state : State S) (soft : List S) (steps : List Step) (row : List ℕ) (o : Option Record) (r : Record) (bytes : List ℕ) →

@@ -1,4 +1,3 @@
-pub mod Operands
 pub mod Lines
 pub mod Records
 pub mod Doing

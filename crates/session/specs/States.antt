@@ -1,5 +1,5 @@
 -- What the state of a session means: cited by `State`. Assumes nothing.
-use Rattle.std.specs.Prelude.{◌≡◌, ℕ, ◌+◌, ◌-◌, ◌≤◌, false, cond, List, [], ◌∷◌, length, take, drop, Some, None, Ok, Err, decimal, Result}
+use Rattle.std.specs.Prelude.{◌≡◌, ℕ, ◌+◌, ◌-◌, ◌≤◌, false, cond, List, length, drop, Some, None, Ok, Err, Result}
 use Rattle.code.specs.Spans.{part}
 use Rattle.soft.specs.Kind.{Kind}
 use Rattle.receiver.specs.declared.memory.Step.{Step}
@@ -58,8 +58,11 @@ Placed session at taking = Unit {0}
 Placed session at dropping = Unit {0}
 
 -- how a session begins, as it was read
+abbrev pub opened_as : Opened → Opening
+opened_as o = record { number = o.header.number; make = o.header.make; commands = o.commands.now }
+
 abbrev pub opening_of : Result Opened SessionFault → Result Opening SessionFault
-opening_of (Ok o) = Ok (record { number = o.number; make = o.make; commands = o.commands.now })
+opening_of (Ok o) = Ok (opened_as o)
 opening_of (Err f) = Err f
 
 -- the part of a session that is left, with its offset

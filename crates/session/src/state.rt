@@ -12,7 +12,7 @@ use crate::chosen::Chosen;
 use crate::commands::{Command, Sizes};
 use crate::faults::SessionFault;
 use crate::reading::two_to;
-use crate::shelf::{Source, find_slot, ranks_from};
+use crate::shelf::{Source, Sources, find_slot};
 use code::encode::{encode, informed_count};
 use code::map::Map;
 use code::order::Order;
@@ -76,15 +76,12 @@ impl<'a, S: Soft + Copy> State<'a, S> {
         &mut self,
         at: usize,
         slot: u8,
-        session: &'a [u8],
-        shelf: &'a [u8],
+        sources: Sources<'a>,
     ) -> Result<Answer<'static>, SessionFault>
-        ensures { Does S.Soft.kind (do_slot shelf.now at slot) result self.old self.new }
+        ensures { Does S.Soft.kind (do_slot sources.entry.shelf.now at slot) result self.old self.new }
     {
-        let Some(record) = find_slot(shelf, slot) else {
-            return Err(SessionFault::Slot(at));
-        };
-        let (ranks, _) = ranks_from(Source::Shelf, session, shelf, record.place, record.count);
+        let record = find_slot(sources.shelf, slot).ok_or(SessionFault::Slot(at))?;
+        let (ranks, _) = sources.ranks(Source::Shelf, record.place, record.count);
         self.put_order(record.n, ranks)
     }
 
@@ -250,8 +247,7 @@ impl<'a, S: Soft + Copy> State<'a, S> {
         &mut self,
         command: Command<'a>,
         at: usize,
-        session: &'a [u8],
-        shelf: &'a [u8],
+        sources: Sources<'a>,
         soft: &mut [S],
         pending: &mut [Step],
         bits: &mut [u8],
@@ -259,13 +255,13 @@ impl<'a, S: Soft + Copy> State<'a, S> {
     ) -> Result<Answer<'b>, SessionFault>
         requires message { length buffers.message.now ≡ 1024 }
         requires word { length buffers.word.now ≡ 1024 }
-        requires placed { Placed session.now at (request_of command) }
-        ensures { Works S.Soft.kind (perform S.Soft.kind shelf.now at (request_of command.entry)) result self.old soft.old pending.old bits.old self.new soft.new pending.new bits.new }
+        requires placed { Placed sources.session.now at (request_of command) }
+        ensures { Works S.Soft.kind (perform S.Soft.kind sources.entry.shelf.now at (request_of command.entry)) result self.old soft.old pending.old bits.old self.new soft.new pending.new bits.new }
     {
         match command {
-            Command::Slot { slot } => self.put_slot(at, slot, session, shelf),
+            Command::Slot { slot } => self.put_slot(at, slot, sources),
             Command::Order { n, ranks } => {
-                let (ranks, _) = ranks_from(Source::Session, session, shelf, at + 2, ranks.len());
+                let (ranks, _) = sources.ranks(Source::Session, at + 2, ranks.len());
                 self.put_order(n, ranks)
             }
             Command::Ranked { k } => self.put_ranked(at, k),

@@ -5,8 +5,8 @@ use Rattle.session.proofs.interpreter.push_lines.Given as goal
 
 abbrev pub invariant-loop-rest : goal.invariant-loop-rest
 invariant-loop-rest g l =
-    Between g.S.Soft.kind l.make l.session l.shelf
-    (string_bytes l.initial.text ++ lines_from g.S.Soft.kind (length l.commands) l.make l.shelf (length l.session) 0 l.commands nothing)
+    Between g.S.Soft.kind l.make l.sources.session.now l.sources.shelf.now
+    (string_bytes l.initial.text ++ lines_from g.S.Soft.kind (length l.commands) l.make l.sources.shelf.now (length l.sources.session.now) 0 l.commands nothing)
     (string_bytes l.text) l.rest l.number l.state l.soft l.pending l.bits
 
 abbrev pub decreases-loop-rest : goal.decreases-loop-rest

@@ -48,4 +48,4 @@ unfolding perform
 returns-in-Order g c = λ s st.
     let stand = simp c.in-Order.is at c.requires.placed in
     simp c.in-Order.is
-    (order_as g.S.Soft.kind c.in-Order.n _ _ s _ _ _ _ _ (c.ranks_from.ensures.ranks ∙ sym stand.1) (c.put_order.ensures s _ _ _ st))
+    (order_as g.S.Soft.kind c.in-Order.n _ _ s _ _ _ _ _ (c.ranks.ensures.ranks ∙ sym stand.1) (c.put_order.ensures s _ _ _ st))
