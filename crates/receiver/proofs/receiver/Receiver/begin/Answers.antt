@@ -11,9 +11,9 @@ pub returns : goal.returns
 returns g c =
     let kind = g.S.Soft.kind in
     let n = g.M.Map.exponent c.args.self.now.map in
-    let soft = c.args.soft.now in
-    let steps = c.args.pending.now in
-    let bits = c.args.bits.now in
+    let soft = c.args.memory.now.soft.now in
+    let steps = c.args.memory.now.pending.now in
+    let bits = c.args.memory.now.bits.now in
     let door : word_door kind c.args.self.now.state c.args.fits (roomy n soft steps bits) c.args.bytes.now ≡ None = search rules in
     let room = room_found n soft steps bits (sym c.if-not-has_room.ensures) in
     let fits = c.requires (true_holds c.args.fits c.if-not-fits.false) in
@@ -28,4 +28,5 @@ returns g c =
         kept = search rules;
       };
       rest = (refl, refl);
+      lent = search rules;
     }

@@ -7,7 +7,7 @@ use Rattle.code.proofs.Encodings.{both_right}
 use Rattle.receiver.specs.Admissions.{in_force}
 use Rattle.receiver.specs.Agreement.{roomy}
 use Rattle.receiver.specs.Model.{right_buffers, message_in}
-use Rattle.receiver.specs.Words.{take_door}
+use Rattle.receiver.specs.Words.{take_asked}
 use Rattle.receiver.proofs.receiver.Receiver.hand_over.Goals as goal
 
 pub returns : goal.returns
@@ -15,13 +15,13 @@ returns g c =
     let map = c.args.self.now.map in
     let n = g.M.Map.exponent map in
     let marks = g.M.Map.marks map in
-    let soft = c.args.soft.now in
-    let steps = c.args.pending.now in
-    let bits = c.args.bits.now in
+    let soft = c.args.memory.now.soft.now in
+    let steps = c.args.memory.now.pending.now in
+    let bits = c.args.memory.now.bits.now in
     let message = c.args.message.now in
     let word = c.args.word.now in
     let state = c.args.self.now.state in
-    let door : take_door state (roomy n soft steps bits) (right_buffers n marks (length message) (length word)) ≡ None = search rules in
+    let door : take_asked state n marks c.args.memory.now (length message) (length word) ≡ None = search rules in
     let right = and_parts (eqb (length message) (informed_count marks)) (eqb (length word) (2 ^ n)) (sym c.if-not-right_buffers.ensures) in
     let size : c.length_of-size.result ≡ 2 ^ n = c.length_of-size.ensures ∙ ap (λ k. 2 ^ k) c.n.ensures.value in
     let copied : c.copy_front.new.word ≡ take (2 ^ n) bits = c.copy_front.ensures.word ∙ ap (λ k. take k bits) size in
@@ -35,5 +35,6 @@ returns g c =
       message = read ∙ sym (ap (λ o. in_force o (message_in n marks (take (2 ^ n) bits)) message) door);
       state = search rules;
       rest = (refl, refl);
+      lent = search rules;
       kept = (refl, refl, c.copy_front.ensures.bits);
     }

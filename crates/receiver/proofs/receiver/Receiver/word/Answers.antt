@@ -15,4 +15,4 @@ returns g c =
     let size : c.length_of-size.result ≡ 2 ^ n = c.length_of-size.ensures ∙ ap (λ k. 2 ^ k) c.n.ensures.value in
     let all = word_continues g.S.Soft.kind g.S.Soft.laws g.M.Map.exponent g.M.Map.marks map _ _ _ full_length word _ bytes _ _ _ _ _ _ _ _ _ (λ room m. refl) (λ room. tt)
     means (full_fits n (length bytes)) (ap (eqb (length bytes)) size) c.begin.ensures.rest c.begin.ensures.taken in
-    record { taken = all.0; rest = c.begin.ensures.rest; law = all.1; stays = all.2 }
+    record { taken = all.0; rest = c.begin.ensures.rest; lent = c.begin.ensures.lent; law = all.1; stays = all.2 }
