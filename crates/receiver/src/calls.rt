@@ -11,10 +11,10 @@ use crate::advancing::{Progress, make_steps};
 use crate::answers::Advance;
 use crate::caps::Caps;
 use crate::faults::ReceiverFault;
-use crate::loading::{clear_bits, load, lowest_unread, push_on};
+use crate::loading::{clear_bits, load, lowest_unread};
 use crate::memory::{Memory, Next, Step};
+use crate::pending::put_alone;
 use crate::receiver::Receiver;
-use crate::rowing::length_of;
 use crate::states::{Asked, State, admit};
 use code::encode::{informed_count, message_of, position_count};
 use code::map::Map;
@@ -33,10 +33,7 @@ fn has_room<M: Map, S>(map: &M, memory: &Memory<S>) -> bool
 fn right_buffers<M: Map>(map: &M, message: usize, word: usize) -> bool
     ensures { result ≡ right_buffers (M.Map.exponent map.now) (M.Map.marks map.now) message word }
 {
-    if message != informed_count(map) {
-        return false;
-    }
-    word == length_of(map.n())
+    message == informed_count(map) && word == position_count(map)
 }
 
 // How many steps were made of the word in hand.
@@ -45,8 +42,7 @@ fn steps_kept(state: State) -> u32
 {
     match state {
         State::Idle => 0,
-        State::Working(_, steps) => steps,
-        State::Finished(steps) => steps,
+        State::Working(_, steps) | State::Finished(steps) => steps,
     }
 }
 
@@ -63,12 +59,11 @@ fn kept_after(progress: Progress, steps: u32) -> State
 }
 
 // Copies the first bits of the work memory.
-fn copy_front(bits: &mut [u8], word: &mut [u8], size: usize)
-    requires { (size ≤ length bits.old) × (length word.old ≡ size) }
-    ensures word { word.new ≡ take size bits.old }
-    ensures bits { bits.new ≡ bits.old }
+fn copy_front<S>(memory: &Memory<S>, word: &mut [u8], size: usize)
+    requires { (size ≤ length memory.now.bits.now) × (length word.old ≡ size) }
+    ensures { word.new ≡ take size memory.now.bits.now }
 {
-    word.copy_from_slice(&bits[0..size]);
+    word.copy_from_slice(&memory.bits[..size]);
 }
 
 impl<M: Map + Copy, S: Soft + Copy> Receiver<M, S> {
@@ -89,10 +84,7 @@ impl<M: Map + Copy, S: Soft + Copy> Receiver<M, S> {
         ensures caps { self.new.caps ≡ in_force (caps_fault first second) (record { first = first; second = second }) self.old.caps }
         ensures rest { (self.new.map ≡ self.old.map) × (self.new.state ≡ self.old.state) }
     {
-        if first > 10 {
-            return Err(ReceiverFault::Cap);
-        }
-        if second > 10 {
+        if first > 10 || second > 10 {
             return Err(ReceiverFault::Cap);
         }
         self.caps = Caps { first, second };
@@ -132,16 +124,15 @@ impl<M: Map + Copy, S: Soft + Copy> Receiver<M, S> {
         if let Some(at) = lowest_unread::<S>(bytes) {
             return Err(ReceiverFault::Byte(at));
         }
-        let n = self.map.n();
-        let size = length_of(n);
+        let size = position_count(&self.map);
         load(memory.soft, bytes, size);
         clear_bits(memory.bits, size);
         let first = Step {
             next: Next::First,
             start: 0,
-            e: n,
+            e: self.map.n(),
         };
-        push_on(memory.pending, 0, first);
+        put_alone(memory.pending, first);
         self.state = State::Working(1, 0);
         Ok(())
     }
@@ -165,11 +156,11 @@ impl<M: Map + Copy, S: Soft + Copy> Receiver<M, S> {
         if !has_room(&self.map, memory) {
             return Err(ReceiverFault::Memory);
         }
-        let size = length_of(self.map.n());
+        let size = position_count(&self.map);
         if !right_buffers(&self.map, message.len(), word.len()) {
             return Err(ReceiverFault::Length);
         }
-        copy_front(memory.bits, word, size);
+        copy_front(memory, word, size);
         let _ = message_of(&self.map, word, message);
         let steps = steps_kept(self.state);
         self.state = State::Idle;

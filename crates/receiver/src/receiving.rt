@@ -14,18 +14,11 @@ use crate::caps::Caps;
 use crate::faults::ReceiverFault;
 use crate::memory::Memory;
 use crate::receiver::Receiver;
-use crate::rowing::length_of;
 use crate::states::{Asked, State};
+use code::encode::position_count;
 use code::map::Map;
 use soft::soft::Soft;
 use std::marker::PhantomData;
-
-// May a short word have this many bytes?
-fn is_short(length: usize, size: usize) -> bool
-    ensures { result ≡ (nat_le 1 length && nat_le length size) }
-{
-    1 <= length && length <= size
-}
 
 impl<M: Map + Copy, S: Soft + Copy> Receiver<M, S> {
     // A new receiver: caps 10 and 10, and no word in hand.
@@ -83,8 +76,10 @@ impl<M: Map + Copy, S: Soft + Copy> Receiver<M, S> {
         ensures law { Continues S.Soft.kind (Call.word (roomy (M.Map.exponent self.old.map) memory.old.soft.now memory.old.pending.now memory.old.bits.now) bytes.now) (plain result) (M.Map.exponent self.old.map) (M.Map.marks self.old.map) self.old.caps self.old.state memory.old.soft.now memory.old.pending.now memory.old.bits.now (M.Map.exponent self.new.map) (M.Map.marks self.new.map) self.new.caps self.new.state memory.new.soft.now memory.new.pending.now memory.new.bits.now }
         ensures stays { Stays S.Soft.kind (Call.word (roomy (M.Map.exponent self.old.map) memory.old.soft.now memory.old.pending.now memory.old.bits.now) bytes.now) (plain result) (M.Map.exponent self.old.map) (M.Map.marks self.old.map) self.old.caps self.old.state (M.Map.exponent self.new.map) (M.Map.marks self.new.map) self.new.caps self.new.state }
     {
-        let size = length_of(self.map.n());
-        self.begin(memory, bytes, bytes.len() == size)
+        // that the map means a list of marks
+        let _n = self.map.n();
+        let fits = bytes.len() == position_count(&self.map);
+        self.begin(memory, bytes, fits)
     }
 
     // Takes a word of 1 to N bytes in hand; the fill stands for the positions that were not sent.
@@ -95,8 +90,9 @@ impl<M: Map + Copy, S: Soft + Copy> Receiver<M, S> {
         ensures law { Continues S.Soft.kind (Call.short_word (roomy (M.Map.exponent self.old.map) memory.old.soft.now memory.old.pending.now memory.old.bits.now) bytes.now) (plain result) (M.Map.exponent self.old.map) (M.Map.marks self.old.map) self.old.caps self.old.state memory.old.soft.now memory.old.pending.now memory.old.bits.now (M.Map.exponent self.new.map) (M.Map.marks self.new.map) self.new.caps self.new.state memory.new.soft.now memory.new.pending.now memory.new.bits.now }
         ensures stays { Stays S.Soft.kind (Call.short_word (roomy (M.Map.exponent self.old.map) memory.old.soft.now memory.old.pending.now memory.old.bits.now) bytes.now) (plain result) (M.Map.exponent self.old.map) (M.Map.marks self.old.map) self.old.caps self.old.state (M.Map.exponent self.new.map) (M.Map.marks self.new.map) self.new.caps self.new.state }
     {
-        let size = length_of(self.map.n());
-        let fits = is_short(bytes.len(), size);
+        // that the map means a list of marks
+        let _n = self.map.n();
+        let fits = (1..=position_count(&self.map)).contains(&bytes.len());
         self.begin(memory, bytes, fits)
     }
 

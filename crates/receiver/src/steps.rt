@@ -9,7 +9,7 @@ ghost use Rattle.receiver.specs.Coherence.{Splits};
 ghost use Rattle.receiver.specs.Steps.{Roomy, Inside, Follows, LeftMade, RightMade, Moves, settled_by};
 ghost use Rattle.receiver.specs.Work.{first, second, final};
 
-use crate::caps::{Caps, allows};
+use crate::caps::Caps;
 use crate::memory::{Memory, Next, Step};
 use crate::pending::{push_half, top_step};
 use crate::rowing::{left_row, length_of, right_row, settle_span, xor_span};
@@ -21,14 +21,7 @@ use soft::soft::Soft;
 fn settled_by(caps: Caps, e: u8, kind: Option<SpanKind>) -> Option<SpanKind>
     ensures { result ≡ settled_by (caps_of caps) e kind }
 {
-    let k = kind?;
-    if e == 0 {
-        return Some(k);
-    }
-    if allows(caps, e, k) {
-        return Some(k);
-    }
-    None
+    kind.filter(|k| e == 0 || caps.allows(e, *k))
 }
 
 // Where the row of an open span of 2 ^ e positions begins in soft memory.

@@ -5,8 +5,7 @@ use Rattle.code.specs.Faults as code
 use Rattle.code.specs.Transform.{transform}
 use Rattle.code.proofs.Encodings.{both_right}
 use Rattle.receiver.specs.Admissions.{in_force}
-use Rattle.receiver.specs.Agreement.{roomy}
-use Rattle.receiver.specs.Model.{right_buffers, message_in}
+use Rattle.receiver.specs.Model.{message_in}
 use Rattle.receiver.specs.Words.{take_asked}
 use Rattle.receiver.proofs.receiver.Receiver.hand_over.Goals as goal
 
@@ -23,9 +22,9 @@ returns g c =
     let state = c.args.self.now.state in
     let door : take_asked state n marks c.args.memory.now (length message) (length word) ≡ None = search rules in
     let right = and_parts (eqb (length message) (informed_count marks)) (eqb (length word) (2 ^ n)) (sym c.if-not-right_buffers.ensures) in
-    let size : c.length_of-size.result ≡ 2 ^ n = c.length_of-size.ensures ∙ ap (λ k. 2 ^ k) c.n.ensures.value in
-    let copied : c.copy_front.new.word ≡ take (2 ^ n) bits = c.copy_front.ensures.word ∙ ap (λ k. take k bits) size in
-    let long : length c.copy_front.new.word ≡ length marks = c.copy_front.auto.word ∙ eqb-true (length word) (2 ^ n) right.1 ∙ sym (ap (λ k. 2 ^ k) c.n.ensures.value) ∙ sym c.n.ensures.means.long in
+    let size = c.position_count-size.ensures in
+    let copied : c.copy_front.new.word ≡ take (2 ^ n) bits = c.copy_front.ensures ∙ ap (λ k. take k bits) size.value in
+    let long : length c.copy_front.new.word ≡ length marks = c.copy_front.auto.word ∙ eqb-true (length word) (2 ^ n) right.1 ∙ sym size.value ∙ size.marks in
     let fault : message_fault marks (length c.copy_front.new.word) (length message) ≡ None = both_right marks _ _ (eqb-true (length message) (informed_count marks) right.0) long in
     let read : c.message_of.new.message ≡ message_in n marks (take (2 ^ n) bits) =
     c.message_of.ensures.message ∙ ap (λ o. code.in_force o (informed marks (transform n c.copy_front.new.word)) message) fault ∙ ap (λ w. informed marks (transform n w)) copied in
@@ -36,5 +35,5 @@ returns g c =
       state = search rules;
       rest = (refl, refl);
       lent = search rules;
-      kept = (refl, refl, c.copy_front.ensures.bits);
+      kept = (refl, refl, refl);
     }
