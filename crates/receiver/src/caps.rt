@@ -12,14 +12,14 @@ pub struct Caps {
     pub second: u8,
 }
 
-// Is a span of 2 ^ e positions that has this kind settled?
-pub(crate) fn allows(caps: Caps, e: u8, kind: SpanKind) -> bool
-    ensures { result ≡ allowed_kind (caps_of caps) e kind }
-{
-    match kind {
-        SpanKind::Rate0 => e <= caps.first,
-        SpanKind::Rate1 => e <= caps.second,
-        SpanKind::Rep => e <= caps.first,
-        SpanKind::Spc => e <= caps.second,
+impl Caps {
+    // Is a span of 2 ^ e positions that has this kind settled?
+    pub(crate) fn allows(self, e: u8, kind: SpanKind) -> bool
+        ensures { result ≡ allowed_kind (caps_of self) e kind }
+    {
+        match kind {
+            SpanKind::Rate0 | SpanKind::Rep => e <= self.first,
+            SpanKind::Rate1 | SpanKind::Spc => e <= self.second,
+        }
     }
 }

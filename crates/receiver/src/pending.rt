@@ -32,3 +32,15 @@ pub(crate) fn push_half(pending: &mut [Step], height: usize, later: Step, half: 
     let _ = stack.push(half);
     stack.len()
 }
+
+// A step as the only one that is pending.
+pub(crate) fn put_alone(pending: &mut [Step], step: Step)
+    requires { 0 < length pending.old }
+    ensures { pending.new ≡ slice_set pending.old 0 step }
+{
+    let mut stack = Stack {
+        slots: pending,
+        len: 0,
+    };
+    let _ = stack.push(step);
+}

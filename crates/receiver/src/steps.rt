@@ -2,14 +2,15 @@
 ghost use Rattle.std.specs.Prelude.{◌≡◌, ◌+◌, ◌-◌, ◌*◌, ◌^◌, ◌<◌, ◌≤◌, length, drop, Option, ◌≢◌};
 ghost use Rattle.code.specs.Spans.{part};
 ghost use Rattle.code.specs.Transform.{join_halves};
+ghost use Rattle.receiver.specs.Lent.{SameLoans};
 ghost use Rattle.receiver.specs.Stacks.{overwritten};
 ghost use Rattle.receiver.specs.Capping.{caps_of};
 ghost use Rattle.receiver.specs.Coherence.{Splits};
 ghost use Rattle.receiver.specs.Steps.{Roomy, Inside, Follows, LeftMade, RightMade, Moves, settled_by};
 ghost use Rattle.receiver.specs.Work.{first, second, final};
 
-use crate::caps::{Caps, allows};
-use crate::memory::{Next, Step};
+use crate::caps::Caps;
+use crate::memory::{Memory, Next, Step};
 use crate::pending::{push_half, top_step};
 use crate::rowing::{left_row, length_of, right_row, settle_span, xor_span};
 use code::kinds::SpanKind;
@@ -20,14 +21,7 @@ use soft::soft::Soft;
 fn settled_by(caps: Caps, e: u8, kind: Option<SpanKind>) -> Option<SpanKind>
     ensures { result ≡ settled_by (caps_of caps) e kind }
 {
-    let k = kind?;
-    if e == 0 {
-        return Some(k);
-    }
-    if allows(caps, e, k) {
-        return Some(k);
-    }
-    None
+    kind.filter(|k| e == 0 || caps.allows(e, *k))
 }
 
 // Where the row of an open span of 2 ^ e positions begins in soft memory.
@@ -75,18 +69,17 @@ fn split_step<S: Soft + Copy>(
 fn first_step<M: Map, S: Soft + Copy>(
     map: &M,
     caps: Caps,
-    soft: &mut [S],
-    pending: &mut [Step],
-    bits: &mut [u8],
+    memory: &mut Memory<S>,
     height: usize,
     step: Step,
 ) -> usize
-    requires room { Roomy (M.Map.exponent map.now) soft.old pending.old bits.old }
+    requires room { Roomy (M.Map.exponent map.now) memory.old.soft.now memory.old.pending.now memory.old.bits.now }
     requires some { 1 ≤ height }
     requires few { height ≤ 64 }
     requires e { step.e ≤ M.Map.exponent map.now }
-    ensures follows { Follows S.Soft.kind (M.Map.exponent map.now) (M.Map.marks map.now) (caps_of caps) first step height soft.old pending.old bits.old result soft.new pending.new bits.new }
-    ensures inside { Inside (M.Map.exponent map.now) result bits.old bits.new }
+    ensures follows { Follows S.Soft.kind (M.Map.exponent map.now) (M.Map.marks map.now) (caps_of caps) first step height memory.old.soft.now memory.old.pending.now memory.old.bits.now result memory.new.soft.now memory.new.pending.now memory.new.bits.now }
+    ensures inside { Inside (M.Map.exponent map.now) result memory.old.bits.now memory.new.bits.now }
+    ensures lent { SameLoans memory.old memory.new }
 {
     let base = row_base(map.n(), step.e);
     let length = length_of(step.e);
@@ -94,10 +87,10 @@ fn first_step<M: Map, S: Soft + Copy>(
         Err(_) => height - 1,
         Ok(kind) => match settled_by(caps, step.e, kind) {
             Some(k) => {
-                settle_span(k, soft, base, bits, step.start, step.e);
+                settle_span(k, memory.soft, base, memory.bits, step.start, step.e);
                 height - 1
             }
-            None => split_step(soft, base, pending, height, step),
+            None => split_step(memory.soft, base, memory.pending, height, step),
         },
     }
 }
@@ -155,19 +148,18 @@ fn final_step(bits: &mut [u8], step: Step)
 pub(crate) fn make_step<M: Map, S: Soft + Copy>(
     map: &M,
     caps: Caps,
-    soft: &mut [S],
-    pending: &mut [Step],
-    bits: &mut [u8],
+    memory: &mut Memory<S>,
     height: usize,
 ) -> usize
-    requires room { Roomy (M.Map.exponent map.now) soft.old pending.old bits.old }
+    requires room { Roomy (M.Map.exponent map.now) memory.old.soft.now memory.old.pending.now memory.old.bits.now }
     requires some { 1 ≤ height }
     requires few { height ≤ 64 }
-    ensures moves { Moves S.Soft.kind (M.Map.exponent map.now) (M.Map.marks map.now) (caps_of caps) height soft.old pending.old bits.old result soft.new pending.new bits.new }
-    ensures inside { Inside (M.Map.exponent map.now) result bits.old bits.new }
+    ensures moves { Moves S.Soft.kind (M.Map.exponent map.now) (M.Map.marks map.now) (caps_of caps) height memory.old.soft.now memory.old.pending.now memory.old.bits.now result memory.new.soft.now memory.new.pending.now memory.new.bits.now }
+    ensures inside { Inside (M.Map.exponent map.now) result memory.old.bits.now memory.new.bits.now }
+    ensures lent { SameLoans memory.old memory.new }
 {
     let n = map.n();
-    let Some(step) = top_step(pending, height) else {
+    let Some(step) = top_step(memory.pending, height) else {
         return 0;
     };
     if step.e > n {
@@ -177,10 +169,17 @@ pub(crate) fn make_step<M: Map, S: Soft + Copy>(
         return height - 1;
     }
     match step.next {
-        Next::First => first_step(map, caps, soft, pending, bits, height, step),
-        Next::Second => second_step(soft, row_base(n, step.e), pending, bits, height, step),
+        Next::First => first_step(map, caps, memory, height, step),
+        Next::Second => second_step(
+            memory.soft,
+            row_base(n, step.e),
+            memory.pending,
+            memory.bits,
+            height,
+            step,
+        ),
         Next::Final => {
-            final_step(bits, step);
+            final_step(memory.bits, step);
             height - 1
         }
     }

@@ -1,7 +1,7 @@
 pub mod Lines
 pub mod Records
-pub mod Doing
 pub mod Calling
+pub mod Doing
 pub mod Keeping
 pub mod Openings
 pub mod Runs

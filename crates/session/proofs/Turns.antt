@@ -8,7 +8,8 @@ use Rattle.session.specs.Faults.{report_of}
 use Rattle.session.specs.Text.{refused_line}
 use Rattle.session.specs.Commands.{Read, read_command}
 use Rattle.session.specs.Sessions.{InForce, Done, perform, answer_line, sizes_in, lines_from}
-use Rattle.receiver.specs.declared.memory.Step.{Step}
+use Rattle.receiver.specs.declared.memory.Memory.{Memory}
+use Rattle.receiver.specs.Lent.{SameLoans}
 use Rattle.session.specs.declared.state.State.{State}
 use Rattle.session.specs.States.{Placed, Left, Stands, Did}
 use Rattle.session.proofs.Lefts.{left_drop, left_left, fine_command}
@@ -101,22 +102,33 @@ going_done kind make session shelf whole text [] number s g none = rw (lines_non
 going_done kind make session shelf whole text (letter ∷ bytes) number s g none = absurd (omega arith)
 
 -- between two commands: what is in force, and that the state and its work memory are so
-pub record Between {S : Type 0} (kind : Kind S) (make : Make) (session shelf : List ℕ) (whole text rest : List ℕ) (number : ℕ) (state : State S) (soft : List S) (steps : List Step) (row : List ℕ) : Type 0 where
+pub record Between {S : Type 0} (kind : Kind S) (make : Make) (session shelf : List ℕ) (whole text rest : List ℕ) (number : ℕ) (state : State S) (memory : Memory S) : Type 0 where
   pub force : InForce S
-  pub stands : Stands kind force state soft steps row
+  pub stands : Stands kind force state memory
   pub going : Going kind make session shelf whole text rest number force
 
 -- a command that was done leads to the next
-pub between_more : {S : Type 0} (kind : Kind S) (make : Make) (session shelf whole text rest : List ℕ) (number : ℕ) (state : State S) (soft : List S) (steps : List Step) (row : List ℕ)
-    (b : Between kind make session shelf whole text rest number state soft steps row) → 0 < length rest →
-    (r : Read) (next : List ℕ) (state' : State S) (soft' : List S) (steps' : List Step) (row' : List ℕ) (answer : Result (List (List ℕ)) SessionFault) →
+pub between_more : {S : Type 0} (kind : Kind S) (make : Make) (session shelf whole text rest : List ℕ) (number : ℕ) (state : State S) (memory : Memory S)
+    (b : Between kind make session shelf whole text rest number state memory) → 0 < length rest →
+    (r : Read) (next : List ℕ) (state' : State S) (memory' : Memory S) (answer : Result (List (List ℕ)) SessionFault) →
     Ok r ≡ read_command make (sizes_in b.force.receiver) (length session - length rest) (get_or rest 0 0) (take (length rest - 1) (drop 1 rest)) →
-    Did kind (perform kind shelf (length session - length rest) r.request b.force) answer state' soft' steps' row' →
+    Did kind (perform kind shelf (length session - length rest) r.request b.force) answer state' memory' →
     next ≡ text ++ answer_line number (get_or rest 0 0) answer →
-    Between kind make session shelf whole next r.rest (number + 1) state' soft' steps' row'
-between_more kind make session shelf whole text rest number state soft steps row b some r next state' soft' steps' row' answer e did n =
+    Between kind make session shelf whole next r.rest (number + 1) state' memory'
+between_more kind make session shelf whole text rest number state memory b some r next state' memory' answer e did n =
     record {
       force = (perform kind shelf (length session - length rest) r.request b.force).after;
       stands = did.after;
       going = going_more kind make session shelf whole text rest number b.force b.going some r next _ e refl (n ∙ ap (λ x. text ++ answer_line number (get_or rest 0 0) x) did.answer);
     }
+
+-- memory that stays lent, call after call
+pub lent_on : {S : Type 0} (memory memory' memory'' : Memory S) → SameLoans memory memory' → SameLoans memory' memory'' → SameLoans memory memory''
+lent_on memory memory' memory'' g h = record {
+  soft = h.soft ∙ g.soft;
+  pending = h.pending ∙ g.pending;
+  bits = h.bits ∙ g.bits;
+  soft_long = h.soft_long ∙ g.soft_long;
+  pending_long = h.pending_long ∙ g.pending_long;
+  bits_long = h.bits_long ∙ g.bits_long;
+}

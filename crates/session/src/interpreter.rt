@@ -1,5 +1,6 @@
 // Sessions from their first byte to their last line.
 ghost use Rattle.std.specs.Prelude.{◌≡◌, ◌++◌, length, IfOk, OnOk, string_bytes};
+ghost use Rattle.receiver.specs.Lent.{SameLoans};
 ghost use Rattle.soft.specs.Whole.{whole};
 ghost use Rattle.soft.specs.Erasure.{erasure};
 ghost use Rattle.session.specs.Sessions.{nothing, lines_from, lines_of, opening, answers, RefusedLeavesAll, ChangesOnlyByChoice};
@@ -13,7 +14,7 @@ use crate::reading::read_command;
 use crate::shelf::Sources;
 use crate::state::State;
 use crate::text::Line;
-use receiver::memory::{Next, Step};
+use receiver::memory::{Memory, Next, Step};
 use soft::erasure::Erasure;
 use soft::soft::Soft;
 use soft::whole::Whole;
@@ -50,13 +51,12 @@ fn push_lines<'a, S: Soft + Copy>(
     make: Make,
     sources: Sources<'a>,
     commands: &'a [u8],
-    soft: &mut [S],
-    pending: &mut [Step],
-    bits: &mut [u8],
+    memory: &mut Memory<S>,
 ) -> Result<(), AllocError>
     requires left { Left sources.session.now commands.now }
-    requires room { Room soft.old pending.old bits.old }
-    ensures { OnOk result (string_bytes text.new ≡ string_bytes text.old ++ lines_from S.Soft.kind (length commands.now) make sources.entry.shelf.now (length sources.entry.session.now) 0 commands.now nothing) }
+    requires room { Room memory.old }
+    ensures lines { OnOk result (string_bytes text.new ≡ string_bytes text.old ++ lines_from S.Soft.kind (length commands.now) make sources.entry.shelf.now (length sources.entry.session.now) 0 commands.now nothing) }
+    ensures lent { SameLoans memory.old memory.new }
 {
     let mut state: State<S> = State::new();
     let mut message = [0u8; 1024];
@@ -72,7 +72,7 @@ fn push_lines<'a, S: Soft + Copy>(
                     message: &mut message,
                     word: &mut word,
                 };
-                let answer = state.run(reading.command, at, sources, soft, pending, bits, buffers);
+                let answer = state.run(reading.command, at, sources, memory, buffers);
                 let line = Line {
                     number,
                     letter,
@@ -111,32 +111,26 @@ fn push_session<'a>(
         start: 0,
         e: 0,
     };
-    let mut pending = [idle; 64];
-    let mut bits = [0u8; 1024];
+    let pending = &mut [idle; 64];
+    let bits = &mut [0u8; 1024];
     match header.number {
         Number::Whole => {
-            let mut soft = [Whole::fill(); 2048];
-            push_lines(
-                text,
-                make,
-                sources,
-                commands,
-                &mut soft,
-                &mut pending,
-                &mut bits,
-            )
+            let soft = &mut [Whole::fill(); 2048];
+            let mut memory = Memory {
+                soft,
+                pending,
+                bits,
+            };
+            push_lines(text, make, sources, commands, &mut memory)
         }
         Number::Erasure => {
-            let mut soft = [Erasure::fill(); 2048];
-            push_lines(
-                text,
-                make,
-                sources,
-                commands,
-                &mut soft,
-                &mut pending,
-                &mut bits,
-            )
+            let soft = &mut [Erasure::fill(); 2048];
+            let mut memory = Memory {
+                soft,
+                pending,
+                bits,
+            };
+            push_lines(text, make, sources, commands, &mut memory)
         }
     }
 }

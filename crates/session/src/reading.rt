@@ -17,26 +17,15 @@ pub(crate) struct Reading<'a> {
     pub(crate) rest: &'a [u8],
 }
 
-// 2 ^ n, for the n of a code.
-pub(crate) fn two_to(n: u8) -> usize
-    requires { n ≤ 10 }
-    ensures value { result ≡ 2 ^ n }
-    ensures bound { result ≤ 1024 }
-{
-    1usize << n
-}
-
 // The count of positions, if n is from 1 to 10.
 pub(crate) fn positions(n: u8) -> Result<usize, MapFault>
     ensures { result ≡ (if good_exponent n then Ok (2 ^ n) else Err Exponent) }
 {
-    if n < 1 {
-        return Err(MapFault::Exponent);
+    if (1..=10).contains(&n) {
+        Ok(1usize << n)
+    } else {
+        Err(MapFault::Exponent)
     }
-    if n > 10 {
-        return Err(MapFault::Exponent);
-    }
-    Ok(two_to(n))
 }
 
 // One byte, and those after it.

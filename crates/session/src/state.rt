@@ -1,64 +1,50 @@
 // What a session has in force, and what a command does to it.
-ghost use Rattle.std.specs.Prelude.{◌≡◌, ℕ, List, length, if◌then◌else◌, None as NoFault};
-ghost use Rattle.receiver.specs.declared.memory.Step.{Step as Pending};
+ghost use Rattle.std.specs.Prelude.{◌≡◌, length, None as NoFault};
+ghost use Rattle.receiver.specs.Lent.{SameLoans};
+ghost use Rattle.receiver.specs.declared.memory.Memory.{Memory as Lent};
 ghost use Rattle.session.specs.Chosen.{exponent_of, marks_of};
 ghost use Rattle.session.specs.Commands.{request_of};
 ghost use Rattle.session.specs.Sessions.{InForce, nothing, sizes_in, choose, do_order, do_slot, do_ranked, do_listed, do_encode, do_caps, do_word, do_short_word, do_advance, do_take, do_drop, perform};
-ghost use Rattle.session.specs.Answers.{answer_of};
-ghost use Rattle.session.specs.States.{Stands, Room, Did, Does, Works, Placed};
+ghost use Rattle.session.specs.States.{Stands, Room, Does, Works, Placed};
 
 use crate::answers::{Answer, Buffers};
 use crate::chosen::Chosen;
 use crate::commands::{Command, Sizes};
 use crate::faults::SessionFault;
-use crate::reading::two_to;
 use crate::shelf::{Source, Sources, find_slot};
-use code::encode::{encode, informed_count};
-use code::map::Map;
+use code::encode::{encode, informed_count, position_count};
+use code::listed::Listed;
 use code::order::Order;
-use receiver::memory::Step;
+use code::ranked::Ranked;
+use receiver::memory::Memory;
 use receiver::receiver::Receiver;
 use soft::soft::Soft;
 
-// An order and a receiver, each in force only once an order or a map was accepted.
+// The order in force and the receiver over the map in force, from the first that is accepted on.
 #[derive(Drop)]
 pub(crate) struct State<'a, S> {
-    pub(crate) ordered: bool,
-    pub(crate) order: Order<'a>,
-    pub(crate) mapped: bool,
-    pub(crate) receiver: Receiver<Chosen<'a>, S>,
-}
-
-// 1 for yes, 0 for no.
-fn flag(yes: bool) -> usize
-    ensures { result ≡ (if yes then 1 else 0) }
-{
-    if yes { 1 } else { 0 }
+    pub(crate) order: Option<Order<'a>>,
+    pub(crate) receiver: Option<Receiver<Chosen<'a>, S>>,
 }
 
 impl<'a, S: Soft + Copy> State<'a, S> {
     pub(crate) fn new() -> Self
-        ensures { (soft : List S) (steps : List Pending) (row : List ℕ) → Room soft steps row → Stands S.Soft.kind nothing result soft steps row }
+        ensures { (memory : Lent S) → Room memory → Stands S.Soft.kind nothing result memory }
     {
         State {
-            ordered: false,
-            order: Order::smallest(),
-            mapped: false,
-            receiver: Receiver::new(Chosen::new()),
+            order: None,
+            receiver: None,
         }
     }
 
     // How many bytes `E` and `W` take, if there is a map.
     pub(crate) fn sizes(&self) -> Option<Sizes>
-        ensures { (s : InForce S) (soft : List S) (steps : List Pending) (row : List ℕ) → Stands S.Soft.kind s self.now soft steps row → result ≡ sizes_in s.receiver }
+        ensures { (s : InForce S) (memory : Lent S) → Stands S.Soft.kind s self.now memory → result ≡ sizes_in s.receiver }
     {
-        if !self.mapped {
-            return None;
-        }
-        let map = self.receiver.map();
+        let map = self.receiver.as_ref()?.map();
         Some(Sizes {
             informed: informed_count(&map),
-            positions: two_to(map.n()),
+            positions: position_count(&map),
         })
     }
 
@@ -66,9 +52,10 @@ impl<'a, S: Soft + Copy> State<'a, S> {
     fn put_order(&mut self, n: u8, bytes: &'a [u8]) -> Result<Answer<'static>, SessionFault>
         ensures { Does S.Soft.kind (do_order n bytes.now) result self.old self.new }
     {
-        self.order.read(n, bytes)?;
-        self.ordered = true;
-        Ok(Answer::Number(n as usize))
+        let mut order = Order::smallest();
+        order.read(n, bytes)?;
+        self.order = Some(order);
+        Ok(Answer::Number(usize::from(n)))
     }
 
     // `S`
@@ -85,12 +72,14 @@ impl<'a, S: Soft + Copy> State<'a, S> {
         self.put_order(record.n, ranks)
     }
 
-    // A map that was made: the receiver is remapped. Before the first map it is a new one, which is always remapped.
+    // A map that was made: the first makes the receiver, a later one remaps it.
     fn put_map(&mut self, map: Chosen<'a>) -> Result<Answer<'static>, SessionFault>
         ensures { Does S.Soft.kind (choose S.Soft.kind NoFault (exponent_of map.entry) (marks_of map.entry)) result self.old self.new }
     {
-        self.receiver.remap(map)?;
-        self.mapped = true;
+        match &mut self.receiver {
+            Some(receiver) => receiver.remap(map)?,
+            None => self.receiver = Some(Receiver::new(map)),
+        }
         Ok(Answer::Number(informed_count(&map)))
     }
 
@@ -98,22 +87,19 @@ impl<'a, S: Soft + Copy> State<'a, S> {
     fn put_ranked(&mut self, at: usize, k: u16) -> Result<Answer<'static>, SessionFault>
         ensures { Does S.Soft.kind (do_ranked S.Soft.kind at k) result self.old self.new }
     {
-        if !self.ordered {
-            return Err(SessionFault::NoOrder(at));
-        }
-        let order = self.order;
-        let mut map = self.receiver.map();
-        map.put_ranked(order, k)?;
-        self.put_map(map)
+        let order = self.order.ok_or(SessionFault::NoOrder(at))?;
+        let mut map = Ranked::new(Order::smallest());
+        map.choose(order, k)?;
+        self.put_map(Chosen::Ranked(map))
     }
 
     // `L`
     fn put_listed(&mut self, n: u8, marks: &'a [u8]) -> Result<Answer<'static>, SessionFault>
         ensures { Does S.Soft.kind (do_listed S.Soft.kind n marks.now) result self.old self.new }
     {
-        let mut map = self.receiver.map();
-        map.put_listed(n, marks)?;
-        self.put_map(map)
+        let mut map = Listed::smallest();
+        map.read(n, marks)?;
+        self.put_map(Chosen::Listed(map))
     }
 
     // `B`
@@ -125,21 +111,17 @@ impl<'a, S: Soft + Copy> State<'a, S> {
     ) -> Result<Answer<'static>, SessionFault>
         ensures { Does S.Soft.kind (do_caps S.Soft.kind at first second) result self.old self.new }
     {
-        if !self.mapped {
-            return Err(SessionFault::NoMap(at));
-        }
-        self.receiver.set_caps(first, second)?;
-        Ok(Answer::Pair(first as usize, second as usize))
+        let receiver = self.receiver.as_mut().ok_or(SessionFault::NoMap(at))?;
+        receiver.set_caps(first, second)?;
+        Ok(Answer::Pair(usize::from(first), usize::from(second)))
     }
 
     // `X`
     fn drop_word(&mut self, at: usize) -> Result<Answer<'static>, SessionFault>
         ensures { Does S.Soft.kind (do_drop S.Soft.kind at) result self.old self.new }
     {
-        if !self.mapped {
-            return Err(SessionFault::NoMap(at));
-        }
-        self.receiver.drop_word()?;
+        let receiver = self.receiver.as_mut().ok_or(SessionFault::NoMap(at))?;
+        receiver.drop_word()?;
         Ok(Answer::Nothing)
     }
 
@@ -148,16 +130,13 @@ impl<'a, S: Soft + Copy> State<'a, S> {
         &mut self,
         at: usize,
         bytes: &[u8],
-        soft: &mut [S],
-        pending: &mut [Step],
-        bits: &mut [u8],
+        memory: &mut Memory<S>,
     ) -> Result<Answer<'static>, SessionFault>
-        ensures { Works S.Soft.kind (do_word S.Soft.kind at bytes.now) result self.old soft.old pending.old bits.old self.new soft.new pending.new bits.new }
+        ensures works { Works S.Soft.kind (do_word S.Soft.kind at bytes.now) result self.old memory.old self.new memory.new }
+        ensures lent { SameLoans memory.old memory.new }
     {
-        if !self.mapped {
-            return Err(SessionFault::NoMap(at));
-        }
-        self.receiver.word(soft, pending, bits, bytes)?;
+        let receiver = self.receiver.as_mut().ok_or(SessionFault::NoMap(at))?;
+        receiver.word(memory, bytes)?;
         Ok(Answer::Nothing)
     }
 
@@ -166,16 +145,13 @@ impl<'a, S: Soft + Copy> State<'a, S> {
         &mut self,
         at: usize,
         bytes: &[u8],
-        soft: &mut [S],
-        pending: &mut [Step],
-        bits: &mut [u8],
+        memory: &mut Memory<S>,
     ) -> Result<Answer<'static>, SessionFault>
-        ensures { Works S.Soft.kind (do_short_word S.Soft.kind at bytes.now) result self.old soft.old pending.old bits.old self.new soft.new pending.new bits.new }
+        ensures works { Works S.Soft.kind (do_short_word S.Soft.kind at bytes.now) result self.old memory.old self.new memory.new }
+        ensures lent { SameLoans memory.old memory.new }
     {
-        if !self.mapped {
-            return Err(SessionFault::NoMap(at));
-        }
-        self.receiver.short_word(soft, pending, bits, bytes)?;
+        let receiver = self.receiver.as_mut().ok_or(SessionFault::NoMap(at))?;
+        receiver.short_word(memory, bytes)?;
         Ok(Answer::Nothing)
     }
 
@@ -184,42 +160,36 @@ impl<'a, S: Soft + Copy> State<'a, S> {
         &mut self,
         at: usize,
         allowance: u16,
-        soft: &mut [S],
-        pending: &mut [Step],
-        bits: &mut [u8],
+        memory: &mut Memory<S>,
     ) -> Result<Answer<'static>, SessionFault>
-        ensures { Works S.Soft.kind (do_advance S.Soft.kind at allowance) result self.old soft.old pending.old bits.old self.new soft.new pending.new bits.new }
+        ensures works { Works S.Soft.kind (do_advance S.Soft.kind at allowance) result self.old memory.old self.new memory.new }
+        ensures lent { SameLoans memory.old memory.new }
     {
-        if !self.mapped {
-            return Err(SessionFault::NoMap(at));
-        }
-        let advance = self.receiver.advance(soft, pending, bits, allowance)?;
-        Ok(Answer::Pair(advance.made as usize, flag(advance.finished)))
+        let receiver = self.receiver.as_mut().ok_or(SessionFault::NoMap(at))?;
+        let advance = receiver.advance(memory, allowance)?;
+        Ok(Answer::Pair(usize::from(advance.made), usize::from(advance.finished)))
     }
 
     // `T`
     fn take<'b>(
         &mut self,
         at: usize,
-        soft: &mut [S],
-        pending: &mut [Step],
-        bits: &mut [u8],
+        memory: &mut Memory<S>,
         buffers: Buffers<'b>,
     ) -> Result<Answer<'b>, SessionFault>
         requires message { length buffers.message.now ≡ 1024 }
         requires word { length buffers.word.now ≡ 1024 }
-        ensures { Works S.Soft.kind (do_take S.Soft.kind at) result self.old soft.old pending.old bits.old self.new soft.new pending.new bits.new }
+        ensures works { Works S.Soft.kind (do_take S.Soft.kind at) result self.old memory.old self.new memory.new }
+        ensures lent { SameLoans memory.old memory.new }
     {
-        if !self.mapped {
-            return Err(SessionFault::NoMap(at));
-        }
-        let map = self.receiver.map();
+        let receiver = self.receiver.as_mut().ok_or(SessionFault::NoMap(at))?;
+        let map = receiver.map();
         let informed = informed_count(&map);
-        let positions = two_to(map.n());
+        let positions = position_count(&map);
         let Buffers { message, word } = buffers;
         let message = &mut message[0..informed];
         let word = &mut word[0..positions];
-        let steps = self.receiver.take(soft, pending, bits, message, word)?;
+        let steps = receiver.take(memory, message, word)?;
         Ok(Answer::Taken(steps, message, word))
     }
 
@@ -233,30 +203,28 @@ impl<'a, S: Soft + Copy> State<'a, S> {
         requires { length word.old ≡ 1024 }
         ensures { Does S.Soft.kind (do_encode at message.now) result self.now self.now }
     {
-        if !self.mapped {
-            return Err(SessionFault::NoMap(at));
-        }
-        let map = self.receiver.map();
-        let word = &mut word[0..two_to(map.n())];
+        let receiver = self.receiver.as_ref().ok_or(SessionFault::NoMap(at))?;
+        let map = receiver.map();
+        let word = &mut word[0..position_count(&map)];
         encode(&map, message, word)?;
         Ok(Answer::Word(word))
     }
 
     // Does what a command asks, whose letter stands at offset `at`.
+    #[tactic(auto, unfolding(crate::specs::Sessions::perform))]
     pub(crate) fn run<'b>(
         &mut self,
         command: Command<'a>,
         at: usize,
         sources: Sources<'a>,
-        soft: &mut [S],
-        pending: &mut [Step],
-        bits: &mut [u8],
+        memory: &mut Memory<S>,
         buffers: Buffers<'b>,
     ) -> Result<Answer<'b>, SessionFault>
         requires message { length buffers.message.now ≡ 1024 }
         requires word { length buffers.word.now ≡ 1024 }
         requires placed { Placed sources.session.now at (request_of command) }
-        ensures { Works S.Soft.kind (perform S.Soft.kind sources.entry.shelf.now at (request_of command.entry)) result self.old soft.old pending.old bits.old self.new soft.new pending.new bits.new }
+        ensures works { Works S.Soft.kind (perform S.Soft.kind sources.entry.shelf.now at (request_of command.entry)) result self.old memory.old self.new memory.new }
+        ensures lent { SameLoans memory.old memory.new }
     {
         match command {
             Command::Slot { slot } => self.put_slot(at, slot, sources),
@@ -268,10 +236,10 @@ impl<'a, S: Soft + Copy> State<'a, S> {
             Command::Listed { n, marks } => self.put_listed(n, marks),
             Command::Encode { message } => self.encode(at, message, buffers.word),
             Command::Caps { first, second } => self.put_caps(at, first, second),
-            Command::Word { bytes } => self.word(at, bytes, soft, pending, bits),
-            Command::ShortWord { bytes } => self.short_word(at, bytes, soft, pending, bits),
-            Command::Advance { allowance } => self.advance(at, allowance, soft, pending, bits),
-            Command::Take => self.take(at, soft, pending, bits, buffers),
+            Command::Word { bytes } => self.word(at, bytes, memory),
+            Command::ShortWord { bytes } => self.short_word(at, bytes, memory),
+            Command::Advance { allowance } => self.advance(at, allowance, memory),
+            Command::Take => self.take(at, memory, buffers),
             Command::Drop => self.drop_word(at),
         }
     }

@@ -45,7 +45,7 @@ impl fmt::Display for Line<'_> {
                 }
             }
             Err(fault) => {
-                let report = fault.report();
+                let report = Report::from(fault);
                 let letter = shown_letter(report, self.letter);
                 let answer = report.number;
                 let layer = report.layer;
