@@ -7,7 +7,7 @@ use Rattle.session.specs.Shelf.{record_of, record_from, slot_record}
 
 -- a record that is found ends within the shelf
 pub record_within : (at : ℕ) (bytes : List ℕ) (r : Record) → Some r ≡ record_from at bytes → (r.place ≡ at + 1) × (1 + r.count ≤ length bytes)
-record_within at [] r e = let z : ◌≡◌ {A = ℕ} 0 1 = cc in absurd (omega arith)
+record_within at [] r e = absurd (cc)
 record_within at (n ∷ bytes) r e = go (good_exponent n && leb (2 * 2 ^ n) (length bytes)) refl e
   where
     go : (b : Bool) → good_exponent n && leb (2 * 2 ^ n) (length bytes) ≡ b → Some r ≡ cond b (Some (record_of at n)) None →
@@ -17,7 +17,7 @@ record_within at (n ∷ bytes) r e = go (good_exponent n && leb (2 * 2 ^ n) (len
         let l : 2 * 2 ^ n ≤ length bytes = leb-true (2 * 2 ^ n) (length bytes) (and_parts (good_exponent n) _ f).1 in
         let k : r.count ≡ 2 * 2 ^ n = ap (λ x. x.count) q in
         (ap (λ x. x.place) q, omega arith)
-    go false f h = let z : ◌≡◌ {A = ℕ} 0 1 = cc in absurd (omega arith)
+    go false f h = absurd (cc)
 
 -- past a record that is found, one slot less
 pub slot_more : (slot passed at : ℕ) (shelf : List ℕ) (r : Record) → passed < slot → Some r ≡ record_from at (drop at shelf) →
@@ -49,5 +49,5 @@ slot_within (suc number) at shelf r e = go (record_from at (drop at shelf)) (λ 
   where
     go : (o : Option Record) → ((q : Record) → Some r ≡ slot_record number (q.place + q.count) shelf → r.place + r.count ≤ length shelf) →
         Some r ≡ elim o [ None ↦ None | Some q ↦ slot_record number (q.place + q.count) shelf ] → r.place + r.count ≤ length shelf
-    go None more f = let z : ◌≡◌ {A = ℕ} 0 1 = cc in absurd (omega arith)
+    go None more f = absurd (cc)
     go (Some q) more f = more q f

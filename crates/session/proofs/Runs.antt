@@ -42,7 +42,7 @@ Mean (makes n marks) = Means n marks
 Mean (calls c a) = Mapped c
 
 none_some : {A X : Type 0} {x : X} → None ≡ Some x → A
-none_some e = let z : ◌≡◌ {A = ℕ} 0 1 = cc in absurd (omega arith)
+none_some e = absurd (cc)
 
 module _ {S : Type 0} (kind : Kind S) (s : InForce S) where
   offered : (o : Option MapFault) (n : ℕ) (bytes : List ℕ) → (offer o n bytes s).after.receiver ≡ s.receiver

@@ -28,26 +28,6 @@ pub(crate) fn positions(n: u8) -> Result<usize, MapFault>
     }
 }
 
-// One byte, and those after it.
-fn byte<'a>(at: usize, bytes: &'a [u8]) -> Result<(u8, &'a [u8]), SessionFault>
-    ensures { MatchResult result (λ read. bytes.now ≡ read.0 ∷ read.1.now) (λ fault. (bytes.now ≡ []) × (fault ≡ Cut at)) }
-{
-    let [first, rest @ ..] = bytes else {
-        return Err(SessionFault::Cut(at));
-    };
-    Ok((*first, rest))
-}
-
-// Two bytes, and those after them.
-fn pair<'a>(at: usize, bytes: &'a [u8]) -> Result<([u8; 2], &'a [u8]), SessionFault>
-    ensures { MatchResult result (λ read. bytes.now ≡ read.0 ++ read.1.now) (λ fault. (length bytes.now < 2) × (fault ≡ Cut at)) }
-{
-    let [first, second, rest @ ..] = bytes else {
-        return Err(SessionFault::Cut(at));
-    };
-    Ok(([*first, *second], rest))
-}
-
 // The first `count` bytes, and those after them.
 fn split<'a>(at: usize, count: usize, bytes: &'a [u8]) -> Result<(&'a [u8], &'a [u8]), SessionFault>
     ensures { MatchResult result (λ read. (count ≤ length bytes.now) × (read.0.now ≡ take count bytes.now) × (read.1.now ≡ drop count bytes.now)) (λ fault. (length bytes.now < count) × (fault ≡ Cut at)) }
@@ -66,67 +46,65 @@ pub(crate) fn read_command<'a>(
 ) -> Result<Reading<'a>, SessionFault>
     ensures { reading_of result ≡ read_command make sizes at letter bytes.now }
 {
-    match (make, letter) {
-        (_, b'E') => {
+    match (make, letter, bytes) {
+        (_, b'E', _) => {
             let sizes = sizes.ok_or(SessionFault::NoMap(at))?;
             let (message, rest) = split(at, sizes.informed, bytes)?;
             let command = Command::Encode { message };
             Ok(Reading { command, rest })
         }
-        (_, b'B') => {
-            let ([first, second], rest) = pair(at, bytes)?;
-            let command = Command::Caps { first, second };
-            Ok(Reading { command, rest })
-        }
-        (_, b'W') => {
+        (_, b'W', _) => {
             let sizes = sizes.ok_or(SessionFault::NoMap(at))?;
             let (bytes, rest) = split(at, sizes.positions, bytes)?;
             let command = Command::Word { bytes };
             Ok(Reading { command, rest })
         }
-        (_, b'V') => {
-            let (count, rest) = pair(at, bytes)?;
-            let (bytes, rest) = split(at, usize::from(u16::from_be_bytes(count)), rest)?;
+        (_, b'V', [high, low, rest @ ..]) => {
+            let count = u16::from_be_bytes([*high, *low]);
+            let (bytes, rest) = split(at, usize::from(count), rest)?;
             let command = Command::ShortWord { bytes };
             Ok(Reading { command, rest })
         }
-        (_, b'A') => {
-            let (allowance, rest) = pair(at, bytes)?;
-            let allowance = u16::from_be_bytes(allowance);
+        (_, b'A', [high, low, rest @ ..]) => {
+            let allowance = u16::from_be_bytes([*high, *low]);
             let command = Command::Advance { allowance };
             Ok(Reading { command, rest })
         }
-        (_, b'T') => Ok(Reading {
-            command: Command::Take,
-            rest: bytes,
-        }),
-        (_, b'X') => Ok(Reading {
-            command: Command::Drop,
-            rest: bytes,
-        }),
-        (Make::Ranked, b'S') => {
-            let (slot, rest) = byte(at, bytes)?;
-            let command = Command::Slot { slot };
+        (_, b'B', [first, second, rest @ ..]) => {
+            let (first, second) = (*first, *second);
+            let command = Command::Caps { first, second };
             Ok(Reading { command, rest })
         }
-        (Make::Ranked, b'O') => {
-            let (n, rest) = byte(at, bytes)?;
-            let (ranks, rest) = split(at, 2 * positions(n)?, rest)?;
-            let command = Command::Order { n, ranks };
+        (_, b'T', rest) => {
+            let command = Command::Take;
             Ok(Reading { command, rest })
         }
-        (Make::Ranked, b'K') => {
-            let (k, rest) = pair(at, bytes)?;
-            let k = u16::from_be_bytes(k);
+        (_, b'X', rest) => {
+            let command = Command::Drop;
+            Ok(Reading { command, rest })
+        }
+        (Make::Ranked, b'S', [slot, rest @ ..]) => {
+            let command = Command::Slot { slot: *slot };
+            Ok(Reading { command, rest })
+        }
+        (Make::Ranked, b'O', [n, rest @ ..]) => {
+            let (ranks, rest) = split(at, 2 * positions(*n)?, rest)?;
+            let command = Command::Order { n: *n, ranks };
+            Ok(Reading { command, rest })
+        }
+        (Make::Ranked, b'K', [high, low, rest @ ..]) => {
+            let k = u16::from_be_bytes([*high, *low]);
             let command = Command::Ranked { k };
             Ok(Reading { command, rest })
         }
-        (Make::Listed, b'L') => {
-            let (n, rest) = byte(at, bytes)?;
-            let (marks, rest) = split(at, positions(n)?, rest)?;
-            let command = Command::Listed { n, marks };
+        (Make::Listed, b'L', [n, rest @ ..]) => {
+            let (marks, rest) = split(at, positions(*n)?, rest)?;
+            let command = Command::Listed { n: *n, marks };
             Ok(Reading { command, rest })
         }
+        (_, b'V' | b'A' | b'B', _) => Err(SessionFault::Cut(at)),
+        (Make::Ranked, b'S' | b'O' | b'K', _) => Err(SessionFault::Cut(at)),
+        (Make::Listed, b'L', _) => Err(SessionFault::Cut(at)),
         _ => Err(SessionFault::Letter(at)),
     }
 }
