@@ -3,10 +3,10 @@ use Rattle.std.proofs.Common.{◌≡◌, ℕ, zero, suc, ◌+◌, ◌-◌, ◌<�
 use Rattle.std.proofs.lemmas.Bool.{cases_eq}
 use Rattle.code.specs.Spans.{lowest_no}
 
-lowest_true : (test : ℕ → Bool) (at count : ℕ) → test at ≡ true → lowest_no test at (suc count) ≡ lowest_no test (suc at) count
+pub lowest_true : (test : ℕ → Bool) (at count : ℕ) → test at ≡ true → lowest_no test at (suc count) ≡ lowest_no test (suc at) count
 lowest_true test at count h = rw h
 
-lowest_false : (test : ℕ → Bool) (at count : ℕ) → test at ≡ false → lowest_no test at (suc count) ≡ Some at
+pub lowest_false : (test : ℕ → Bool) (at count : ℕ) → test at ≡ false → lowest_no test at (suc count) ≡ Some at
 lowest_false test at count h = rw h
 
 left : (at total : ℕ) → at < total → total - at ≡ suc (total - (at + 1))

@@ -131,6 +131,15 @@ undoes_itself (suc e) bits long =
     ∙ take-append-drop (2 ^ e) bits
 
 -- what XORing the right half onto the left half leaves, place by place
+pub xored : (l r new : List ℕ) → length l ≤ length r → length new ≡ length l →
+    ((k : ℕ) → k < length l → get_or new k 0 ≡ bit_xor (get_or l k 0) (get_or r k 0)) → new ≡ xor_row l r
+xored [] r [] le long each = refl
+xored [] r (n ∷ new) le long each = absurd (omega arith)
+xored (x ∷ l) [] new le long each = absurd (omega arith)
+xored (x ∷ l) (y ∷ r) [] le long each = absurd (omega arith)
+xored (x ∷ l) (y ∷ r) (n ∷ new) le long each =
+    ap₂ (λ a row. a ∷ row) (each 0 (omega arith)) (xored l r new (omega arith) (omega arith) (λ k h. each (suc k) (omega arith)))
+
 pub halves_xored : (half : ℕ) (old new : List ℕ) → length old ≡ half + half → length new ≡ length old →
     ((k : ℕ) → k < half → get_or new k 0 ≡ bit_xor (get_or old k 0) (get_or old (half + k) 0)) →
     ((k : ℕ) → half ≤ k → get_or new k 0 ≡ get_or old k 0) →

@@ -6,10 +6,5 @@ ghost use Rattle.code.specs.Spans.{lowest_no, is_bit};
 pub(crate) fn lowest_non_bit(bytes: &[u8]) -> Option<usize>
     ensures { result ≡ lowest_no (λ p. is_bit (slice_index bytes.now p)) 0 (length bytes.now) }
 {
-    for (i, b) in bytes.iter().enumerate() {
-        if *b > 1 {
-            return Some(i);
-        }
-    }
-    None
+    bytes.iter().position(|b| *b > 1)
 }

@@ -15,11 +15,7 @@ use crate::transform::transform_row;
 fn is_informed<M: Map>(map: &M, position: usize) -> bool
     ensures { result ≡ (slice_index (M.marks map.now) position == 1) }
 {
-    match map.mark(position) {
-        Ok(Mark::Informed) => true,
-        Ok(Mark::Frozen) => false,
-        Err(_) => false,
-    }
+    matches!(map.mark(position), Ok(Mark::Informed))
 }
 
 // How many positions there are.
@@ -35,14 +31,9 @@ pub fn position_count<M: Map>(map: &M) -> usize
 pub fn informed_count<M: Map>(map: &M) -> usize
     ensures { result ≡ informed_count (M.marks map.now) }
 {
-    let size = position_count(map);
-    let mut count = 0;
-    for p in 0..size {
-        if is_informed(map, p) {
-            count += 1;
-        }
-    }
-    count
+    (0..position_count(map))
+        .filter(|p| is_informed(map, *p))
+        .count()
 }
 
 // Lays the message on the informed positions in rising order, 0 on the frozen ones.
@@ -50,13 +41,14 @@ fn lay<M: Map>(map: &M, message: &[u8], word: &mut [u8])
     requires { (length word.old ≡ length (M.marks map.now)) × (length message.now ≡ informed_count (M.marks map.now)) }
     ensures { word.new ≡ laid (M.marks map.now) message.now }
 {
-    let mut next = 0;
-    for p in 0..word.len() {
+    let mut rest = message;
+    for (p, place) in word.iter_mut().enumerate() {
+        *place = 0;
         if is_informed(map, p) {
-            word[p] = message[next];
-            next += 1;
-        } else {
-            word[p] = 0;
+            if let [bit, later @ ..] = rest {
+                *place = *bit;
+                rest = later;
+            }
         }
     }
 }
@@ -67,18 +59,17 @@ pub fn encode<M: Map>(map: &M, message: &[u8], word: &mut [u8]) -> Result<(), Ma
     ensures word { word.new ≡ in_force (encode_fault (M.marks map.now) message.now (length word.old)) (encoded (M.exponent map.now) (M.marks map.now) message.now) word.old }
     ensures back { result ≡ Ok tt → informed (M.marks map.now) (transform (M.exponent map.now) word.new) ≡ message.now }
 {
-    let n = map.n();
     if message.len() != informed_count(map) {
         return Err(MapFault::Buffer);
     }
-    if word.len() != two_to(n) {
+    if word.len() != position_count(map) {
         return Err(MapFault::Buffer);
     }
     if let Some(at) = lowest_non_bit(message) {
         return Err(MapFault::Bit(at));
     }
     lay(map, message, word);
-    transform_row(word, n);
+    transform_row(word);
     Ok(())
 }
 
@@ -88,9 +79,9 @@ fn gather<M: Map>(map: &M, bits: &[u8], message: &mut [u8])
     ensures { message.new ≡ informed (M.marks map.now) bits.now }
 {
     let mut next = 0;
-    for p in 0..bits.len() {
+    for (p, bit) in bits.iter().enumerate() {
         if is_informed(map, p) {
-            message[next] = bits[p];
+            message[next] = *bit;
             next += 1;
         }
     }
@@ -102,15 +93,14 @@ pub fn message_of<M: Map>(map: &M, word: &mut [u8], message: &mut [u8]) -> Resul
     ensures message { message.new ≡ in_force (message_fault (M.marks map.now) (length word.old) (length message.old)) (informed (M.marks map.now) (transform (M.exponent map.now) word.old)) message.old }
     ensures word { word.new ≡ word.old }
 {
-    let n = map.n();
     if message.len() != informed_count(map) {
         return Err(MapFault::Buffer);
     }
-    if word.len() != two_to(n) {
+    if word.len() != position_count(map) {
         return Err(MapFault::Buffer);
     }
-    transform_row(word, n);
+    transform_row(word);
     gather(map, word, message);
-    transform_row(word, n);
+    transform_row(word);
     Ok(())
 }

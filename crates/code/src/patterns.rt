@@ -9,38 +9,27 @@ use crate::kinds::SpanKind;
 fn is_constant(row: &[u8], value: u8) -> bool
     ensures { result ≡ same row.now (replicate (length row.now) value) }
 {
-    for mark in row {
-        if *mark != value {
-            return false;
-        }
-    }
-    true
+    row.iter().all(|mark| *mark == value)
 }
 
 // Is only the last mark informed?
 fn is_repetition(row: &[u8]) -> bool
     ensures { result ≡ same row.now (pattern Rep (length row.now)) }
 {
-    let [front @ .., last] = row else {
-        return false;
-    };
-    if *last != 1 {
-        return false;
+    match row {
+        [front @ .., last] => *last == 1 && is_constant(front, 0),
+        [] => false,
     }
-    is_constant(front, 0)
 }
 
 // Is only the first mark frozen?
 fn is_single_parity(row: &[u8]) -> bool
     ensures { result ≡ same row.now (pattern Spc (length row.now)) }
 {
-    let [first, rest @ ..] = row else {
-        return false;
-    };
-    if *first != 0 {
-        return false;
+    match row {
+        [first, rest @ ..] => *first == 0 && is_constant(rest, 1),
+        [] => false,
     }
-    is_constant(rest, 1)
 }
 
 // The first kind whose pattern the row has.

@@ -1,6 +1,8 @@
 // Sizes of codes and spans as numbers of positions.
-ghost use Rattle.std.specs.Prelude.{◌≡◌, ◌^◌, ◌≤◌};
+ghost use Rattle.std.specs.Prelude.{◌≡◌, ◌^◌, ◌≤◌, if◌then◌else◌};
 ghost use Rattle.code.specs.Spans.{good_exponent, power_up_to, is_span};
+
+use crate::faults::MapFault;
 
 // 2 ^ n, for the n of a code or of a span within one.
 pub(crate) fn two_to(n: u8) -> usize
@@ -10,11 +12,15 @@ pub(crate) fn two_to(n: u8) -> usize
     1usize << n
 }
 
-// Is n from 1 to 10?
-pub(crate) fn good_exponent(n: u8) -> bool
-    ensures { result ≡ good_exponent n }
+// The count of positions, if n is from 1 to 10.
+pub fn positions(n: u8) -> Result<usize, MapFault>
+    ensures { result ≡ (if good_exponent n then Ok (2 ^ n) else Err MapFault.Exponent) }
 {
-    1 <= n && n <= 10
+    if (1..=10).contains(&n) {
+        Ok(two_to(n))
+    } else {
+        Err(MapFault::Exponent)
+    }
 }
 
 // Is length one of 1, 2, 4, .. 2 ^ n?
@@ -22,14 +28,7 @@ fn power_up_to(n: u8, length: usize) -> bool
     requires { n ≤ 10 }
     ensures { result ≡ power_up_to n length }
 {
-    let mut e = n;
-    while e > 0 {
-        if length == two_to(e) {
-            return true;
-        }
-        e -= 1;
-    }
-    length == 1
+    length.is_power_of_two() && length <= two_to(n)
 }
 
 // Is (start, length) a span within 2 ^ n positions?

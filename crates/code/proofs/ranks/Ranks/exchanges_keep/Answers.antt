@@ -1,0 +1,14 @@
+use Rattle.std.proofs.Common.{◌≡◌, ◌-◌, ◌∙◌, ap, arith, rules, tests}
+use Rattle.std.specs.List.{list_all, range_with_len}
+use Rattle.std.proofs.lemmas.Iterator.{YieldsList-from_range}
+use Rattle.std.proofs.lemmas.Iterator.Search.{all_from_yields_List}
+use Rattle.code.specs.Orders.{ranks_of, exchange_keeps}
+use Rattle.code.proofs.Searched.{exchanges_from_all}
+use Rattle.code.proofs.ranks.Ranks.exchanges_keep.Goals as goal
+
+pub returns : goal.returns
+returns c =
+    let n = c.args.self.n in
+    all_from_yields_List (exchange_keeps (ranks_of c.args.self.bytes.now) c.args.p) _ _ _ c.all.ensures.ran
+    (YieldsList-from_range 0 (n - 1) (n - 1) (cc) (omega arith)) (λ x b q k. search (rules, tests))
+    ∙ exchanges_from_all (ranks_of c.args.self.bytes.now) c.args.p (n - 1)
