@@ -1,5 +1,5 @@
 -- The transform of a row from those of its halves. Assumes nothing.
-use Rattle.std.proofs.Common.{◌≡◌, ℕ, zero, suc, ◌/◌, ◌^◌, List, ◌++◌, length, take, drop, sym, refl, ap, ◌∙◌, ap₂, arith, pow_pos}
+use Rattle.std.proofs.Common.{◌≡◌, ℕ, zero, suc, ◌/◌, ◌^◌, List, ◌++◌, length, take, drop, refl, ap, ◌∙◌, ap₂, arith, pow_pos}
 use native.Mathlib.Nat.{two-pow-succ}
 use Rattle.std.proofs.lemmas.List.{length-append, length-take, length-drop, take_at, drop_at}
 use Rattle.code.specs.Transform.{xor_row, join_halves, transform}

@@ -1,5 +1,5 @@
 -- The test of a span: how it is made, and what it gives. Assumes nothing.
-use Rattle.std.proofs.Common.{◌≡◌, ℕ, zero, suc, ◌+◌, ◌-◌, ◌/◌, ◌%◌, ◌^◌, ◌<◌, ◌≤◌, Bool, true, false, ◌||◌, eqb, leb, sym, refl, ap, ◌∙◌, ⊎_elim, inl, inr, arith, pow_pos, pow_mono, count_ones}
+use Rattle.std.proofs.Common.{◌≡◌, ℕ, zero, suc, ◌+◌, ◌-◌, ◌/◌, ◌%◌, ◌^◌, ◌≤◌, Bool, true, false, eqb, leb, sym, refl, ap, ◌∙◌, ⊎_elim, inl, inr, arith, pow_pos, pow_mono, count_ones}
 use lib.Count.{ones_step}
 use native.Mathlib.Nat.{two-pow-succ}
 use Rattle.std.specs.Int.{is_power_of_two}

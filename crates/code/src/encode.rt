@@ -1,5 +1,5 @@
 // The encoder, over any map.
-ghost use Rattle.std.specs.Prelude.{◌≡◌, ◌^◌, ◌≤◌, length, Ok, ◌==◌, slice_index};
+ghost use Rattle.std.specs.Prelude.{◌≡◌, ◌^◌, ◌≤◌, ◌&&◌, length, Ok, ◌==◌, slice_index};
 ghost use Rattle.code.specs.Encode.{informed_count, laid, informed, encoded, encode_fault, message_fault};
 ghost use Rattle.code.specs.Faults.{answer_to, in_force};
 ghost use Rattle.code.specs.Transform.{transform};
@@ -36,6 +36,15 @@ pub fn informed_count<M: Map>(map: &M) -> usize
         .count()
 }
 
+// Are these the lengths of a message and of a word?
+pub fn right_lengths<M: Map>(map: &M, message: usize, word: usize) -> bool
+    ensures right { result ≡ (message == informed_count (M.marks map.now) && word == length (M.marks map.now)) }
+    ensures whole { length (M.marks map.now) ≡ 2 ^ M.exponent map.now }
+{
+    let positions = position_count(map);
+    message == informed_count(map) && word == positions
+}
+
 // Lays the message on the informed positions in rising order, 0 on the frozen ones.
 fn lay<M: Map>(map: &M, message: &[u8], word: &mut [u8])
     requires { (length word.old ≡ length (M.marks map.now)) × (length message.now ≡ informed_count (M.marks map.now)) }
@@ -59,10 +68,7 @@ pub fn encode<M: Map>(map: &M, message: &[u8], word: &mut [u8]) -> Result<(), Ma
     ensures word { word.new ≡ in_force (encode_fault (M.marks map.now) message.now (length word.old)) (encoded (M.exponent map.now) (M.marks map.now) message.now) word.old }
     ensures back { result ≡ Ok tt → informed (M.marks map.now) (transform (M.exponent map.now) word.new) ≡ message.now }
 {
-    if message.len() != informed_count(map) {
-        return Err(MapFault::Buffer);
-    }
-    if word.len() != position_count(map) {
+    if !right_lengths(map, message.len(), word.len()) {
         return Err(MapFault::Buffer);
     }
     if let Some(at) = lowest_non_bit(message) {
@@ -93,10 +99,7 @@ pub fn message_of<M: Map>(map: &M, word: &mut [u8], message: &mut [u8]) -> Resul
     ensures message { message.new ≡ in_force (message_fault (M.marks map.now) (length word.old) (length message.old)) (informed (M.marks map.now) (transform (M.exponent map.now) word.old)) message.old }
     ensures word { word.new ≡ word.old }
 {
-    if message.len() != informed_count(map) {
-        return Err(MapFault::Buffer);
-    }
-    if word.len() != position_count(map) {
+    if !right_lengths(map, message.len(), word.len()) {
         return Err(MapFault::Buffer);
     }
     transform_row(word);

@@ -1,5 +1,4 @@
 use Rattle.std.proofs.Common.{◌≡◌, Err, sym, refl, ap, ◌∙◌, arith, rules}
-use Rattle.code.specs.Faults.{answer_to}
 use Rattle.code.proofs.Accepted.{asked}
 use Rattle.code.proofs.Exponents.{counted, uncounted}
 use Rattle.code.proofs.Questions.{fault_exponent, fault_length, fault_rank, fault_law, fault_none}

@@ -1,6 +1,5 @@
 use Rattle.std.proofs.Common.{arith}
 use Rattle.code.proofs.Counted.{informs}
-use Rattle.code.proofs.LawfulSpans.{accepted_by}
 use Rattle.code.proofs.ranked.Ranked.choose.Goals as goal
 
 pub returns-then-from-two_to-clause-count : goal.returns-then-from-two_to-clause-count

@@ -1,4 +1,4 @@
-use Rattle.std.proofs.Common.{ltb, ap, ◌∙◌, arith}
+use Rattle.std.proofs.Common.{ltb, ap, ◌∙◌}
 use Rattle.code.proofs.LawfulSpans.{accepted_by, rank_place}
 use Rattle.code.proofs.Looks.{look_is}
 use Rattle.code.proofs.ranked.Ranked.informed.Goals as goal
