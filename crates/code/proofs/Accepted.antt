@@ -26,7 +26,7 @@ pub none_from : (o : Option MapFault) → is_some o ≡ false → o ≡ None
 none_from None h = refl
 none_from (Some f) h = absurd (both_ways true h refl)
 
-good_from : (n : ℕ) (bytes : List ℕ) → order_fault n bytes ≡ None → (1 ≤ n) × (n ≤ 10)
+pub good_from : (n : ℕ) (bytes : List ℕ) → order_fault n bytes ≡ None → (1 ≤ n) × (n ≤ 10)
 unfolding order_fault
 good_from n bytes h =
     let both = and_parts (leb 1 n) (leb n 10) (passed (good_exponent n) Exponent _ h).0 in
@@ -37,7 +37,7 @@ pub long_from : (n : ℕ) (bytes : List ℕ) → order_fault n bytes ≡ None �
 unfolding order_fault
 long_from n bytes h = eqb-true (length bytes) (2 * 2 ^ n) (passed (eqb (length bytes) (2 * 2 ^ n)) Length _ (passed (good_exponent n) Exponent _ h).1).0
 
-ranks_from : (n : ℕ) (bytes : List ℕ) → order_fault n bytes ≡ None → (lowest_no (fresh_rank (ranks_of bytes)) 0 (2 ^ n) ≡ None) × (lowest_no (keeps_law n (ranks_of bytes)) 0 (2 ^ n) ≡ None)
+pub ranks_from : (n : ℕ) (bytes : List ℕ) → order_fault n bytes ≡ None → (lowest_no (fresh_rank (ranks_of bytes)) 0 (2 ^ n) ≡ None) × (lowest_no (keeps_law n (ranks_of bytes)) 0 (2 ^ n) ≡ None)
 unfolding order_fault ranks_fault
 ranks_from n bytes h =
     neither _ _ (passed (eqb (length bytes) (2 * 2 ^ n)) Length _ (passed (good_exponent n) Exponent _ h).1).1

@@ -1,10 +1,11 @@
 -- What the questions about a message tell, and what an encoder has written. Assumes nothing.
-use Rattle.std.proofs.Common.{◌≡◌, ℕ, ◌^◌, Bool, true, false, cond, not, ◌&&◌, eqb, List, length, is_ok, Some, None, Ok, Err, refl, ap, ◌∙◌}
+use Rattle.std.proofs.Common.{◌≡◌, ℕ, ◌^◌, Bool, true, false, cond, not, ◌&&◌, eqb, List, length, is_ok, Some, None, Ok, Err, sym, refl, ap, ◌∙◌}
 use Rattle.std.specs.Option.{option_map}
 use Rattle.std.proofs.lemmas.Bool.{eqb-true, and_parts, true≢false, false≢true}
 use Rattle.code.specs.declared.faults.MapFault.{MapFault}
 use Rattle.code.specs.declared.faults.MapFault.TheVariants.{Bit, Buffer}
 use Rattle.code.specs.Encode.{informed_count, laid, informed, encoded, encode_fault, message_fault}
+use Rattle.code.specs.Faults.{answer_to, in_force}
 use Rattle.code.specs.Transform.{transform}
 use Rattle.code.proofs.Laying.{length_laid, informed_laid}
 use Rattle.code.proofs.Marks.{bits_of}
@@ -37,8 +38,21 @@ right_lengths marks message word e =
     (eqb-true message (informed_count marks) both.0, eqb-true word (length marks) both.1)
 
 -- a refusal is no success
-pub err_not_ok : {T : Type 0} {f : MapFault} {x : T} → Err f ≡ Ok x → ⊥
+err_not_ok : {T : Type 0} {f : MapFault} {x : T} → Err f ≡ Ok x → ⊥
 err_not_ok e = false≢true (ap is_ok e)
+
+-- what holds of a call that refused a message
+pub message_refused : (n : ℕ) (marks message out : List ℕ) (f : MapFault) → encode_fault marks message (length out) ≡ Some f → record {
+  answer : Err f ≡ answer_to (encode_fault marks message (length out));
+  word : out ≡ in_force (encode_fault marks message (length out)) (encoded n marks message) out;
+  back : Err f ≡ Ok tt → informed marks (transform n out) ≡ message;
+}
+message_refused n marks message out f e =
+    record {
+      answer = sym (ap answer_to e);
+      word = sym (ap (λ o. in_force o (encoded n marks message) out) e);
+      back = λ accepted. absurd (err_not_ok accepted);
+    }
 
 -- the message is read back from its word
 pub read_back : (n : ℕ) (marks message word : List ℕ) → length marks ≡ 2 ^ n → length message ≡ informed_count marks →

@@ -26,12 +26,6 @@ pub lowest_found : (test : ℕ → Bool) (total at : ℕ) → at < total → tes
 lowest_found test total at lt h inv =
     sym (inv ∙ ap (lowest_no test at) (left at total lt) ∙ lowest_false test at (total - (at + 1)) h)
 
--- the pass has come to the end
-pub lowest_all : (test : ℕ → Bool) (total at : ℕ) → total ≤ at → lowest_no test 0 total ≡ lowest_no test at (total - at) → None ≡ lowest_no test 0 total
-lowest_all test total at le inv =
-    let e : total - at ≡ 0 = omega arith in
-    sym (inv ∙ ap (lowest_no test at) e)
-
 -- where none fails, each passes
 pub none_fails : (test : ℕ → Bool) (at count : ℕ) → lowest_no test at count ≡ None → (p : ℕ) → at ≤ p → p < at + count → test p ≡ true
 none_fails test at zero h p low high = absurd (omega arith)

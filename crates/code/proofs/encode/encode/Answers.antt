@@ -5,30 +5,20 @@ use Rattle.code.specs.Encode.{encoded}
 use Rattle.code.specs.Faults.{answer_to, in_force}
 use Rattle.code.specs.Transform.{transform}
 use Rattle.code.proofs.Laying.{length_laid}
-use Rattle.code.proofs.Encodings.{wrong_lengths, right_lengths, message_asked, err_not_ok, read_back}
+use Rattle.code.proofs.Encodings.{wrong_lengths, right_lengths, message_asked, message_refused, read_back}
 use Rattle.code.proofs.encode.encode.Goals as goal
 
 pub returns-then-not-right_lengths : goal.returns-then-not-right_lengths
 returns-then-not-right_lengths g c =
     let marks = g.M.Map.marks c.args.map.now in
-    let message = c.args.message.now in
-    let fault = wrong_lengths marks message (length c.args.word.now) (sym c.if-not-right_lengths.ensures.right) in
-    record {
-      answer = sym (ap answer_to fault);
-      word = sym (ap (λ o. in_force o (encoded (g.M.Map.exponent c.args.map.now) marks message) c.args.word.now) fault);
-      back = λ e. absurd (err_not_ok e);
-    }
+    message_refused (g.M.Map.exponent c.args.map.now) marks c.args.message.now c.args.word.now _
+    (wrong_lengths marks c.args.message.now (length c.args.word.now) (sym c.if-not-right_lengths.ensures.right))
 
 pub returns-in-Some : goal.returns-in-Some
 returns-in-Some g c =
     let marks = g.M.Map.marks c.args.map.now in
-    let message = c.args.message.now in
-    let fault = message_asked marks message (length c.args.word.now) (sym c.if-not-right_lengths.ensures.right) ∙ ap (option_map Bit) (sym c.in-Some.ensures) in
-    record {
-      answer = sym (ap answer_to fault);
-      word = sym (ap (λ o. in_force o (encoded (g.M.Map.exponent c.args.map.now) marks message) c.args.word.now) fault);
-      back = λ e. absurd (err_not_ok e);
-    }
+    message_refused (g.M.Map.exponent c.args.map.now) marks c.args.message.now c.args.word.now _
+    (message_asked marks c.args.message.now (length c.args.word.now) (sym c.if-not-right_lengths.ensures.right) ∙ ap (option_map Bit) (sym c.in-Some.ensures))
 
 pub returns : goal.returns
 returns g c =
