@@ -43,9 +43,9 @@ err_not_ok e = false≢true (ap is_ok e)
 
 -- what holds of a call that refused a message
 pub message_refused : (n : ℕ) (marks message out : List ℕ) (f : MapFault) → encode_fault marks message (length out) ≡ Some f → record {
-  answer : Err f ≡ answer_to (encode_fault marks message (length out));
+  answer : answer_to (Some f) ≡ answer_to (encode_fault marks message (length out));
   word : out ≡ in_force (encode_fault marks message (length out)) (encoded n marks message) out;
-  back : Err f ≡ Ok tt → informed marks (transform n out) ≡ message;
+  back : answer_to (Some f) ≡ answer_to None → informed marks (transform n out) ≡ message;
 }
 message_refused n marks message out f e =
     record {

@@ -1,11 +1,8 @@
 -- The spans of an accepted order keep the law among themselves. Assumes nothing.
-use Rattle.std.proofs.Common.{◌≡◌, ℕ, zero, suc, ◌+◌, ◌-◌, ◌*◌, ◌/◌, ◌%◌, ◌^◌, ◌<◌, ◌≤◌, Bool, true, false, cond, not, eqb, List, length, get_or, is_some, Some, None, Option, refl, ap, ◌∙◌, inl, inr, mul_assoc, arith, pow_pos, pow_mono, pow-add}
+use Rattle.std.proofs.Common.{◌≡◌, ℕ, zero, suc, ◌+◌, ◌-◌, ◌*◌, ◌/◌, ◌%◌, ◌^◌, ◌<◌, ◌≤◌, Bool, true, false, cond, eqb, List, length, get_or, is_some, None, ap, ◌∙◌, inl, inr, mul_assoc, arith, pow_pos, pow_mono, pow-add}
 use native.Mathlib.Nat.{div-add-mod, add-mul-div_left}
-use Rattle.std.proofs.lemmas.Bool.{cases_eq, and_parts, leb-true, eqb-true, eq-eqb, ltb-true, not-false}
-use Rattle.code.specs.declared.faults.MapFault.{MapFault}
-use Rattle.code.specs.declared.faults.MapFault.TheVariants.{Exponent, Length, Rank, Law}
-use Rattle.code.specs.Spans.{good_exponent, lowest_no}
-use Rattle.code.specs.Orders.{ranks_of, exchange_keeps, exchanges_keep, setting_keeps, keeps_law, fresh_rank, ranks_fault, order_fault}
+use Rattle.std.proofs.lemmas.Bool.{cases_eq, and_parts, eq-eqb, ltb-true}
+use Rattle.code.specs.Orders.{ranks_of, exchange_keeps, exchanges_keep, setting_keeps, keeps_law, order_fault}
 use Rattle.code.proofs.Accepted.{none_from, good_from, long_from, ranks_from}
 use Rattle.code.proofs.Lowest.{none_fails}
 use Rattle.code.proofs.SpanLaw.{SpanLaw}

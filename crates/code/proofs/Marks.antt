@@ -59,4 +59,3 @@ listed_means n bytes accepted = by_exponent (good_exponent n) refl
     by_exponent : (b : Bool) → good_exponent n ≡ b → Means n bytes
     by_exponent true good = by_length good (eqb (length bytes) (2 ^ n)) refl
     by_exponent false bad = refuse (bad_exponent n bytes bad)
-

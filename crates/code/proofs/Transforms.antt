@@ -1,5 +1,5 @@
 -- Laws of the transform. Assumes nothing.
-use Rattle.std.proofs.Common.{◌≡◌, ℕ, zero, suc, ◌+◌, ◌^◌, ◌<◌, ◌≤◌, List, [], ◌∷◌, ◌++◌, length, get_or, take, drop, sym, refl, ap, ◌∙◌, ap₂, arith, take-append-drop}
+use Rattle.std.proofs.Common.{◌≡◌, ℕ, zero, suc, ◌^◌, ◌<◌, ◌≤◌, List, [], ◌∷◌, ◌++◌, length, get_or, take, drop, sym, refl, ap, ◌∙◌, ap₂, arith, take-append-drop}
 use native.Mathlib.Nat.{two-pow-succ}
 use lib.Bits.{bit_xor, xor_assoc, xor_comm, xor_self, xor_zero_r}
 use Rattle.std.proofs.lemmas.List.{length-take, length-drop, length-append, take_at, drop_at}
@@ -135,4 +135,3 @@ xored (x ∷ l) [] new le long each = absurd (omega arith)
 xored (x ∷ l) (y ∷ r) [] le long each = absurd (omega arith)
 xored (x ∷ l) (y ∷ r) (n ∷ new) le long each =
     ap₂ (λ a row. a ∷ row) (each 0 (omega arith)) (xored l r new (omega arith) (omega arith) (λ k h. each (suc k) (omega arith)))
-
