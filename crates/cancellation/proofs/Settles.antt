@@ -1,6 +1,6 @@
 -- What each rule's word is, and a span settled by it. Assumes nothing.
-use Rattle.std.proofs.Common.{◌≡◌, ℕ, ◌+◌, ◌-◌, ◌^◌, cond, List, length, Ok, Err, Result, sym, refl, ap, ◌∙◌, subst, arith, pow_pos}
-use Rattle.std.proofs.lemmas.Bool.{eq-eqb}
+use Rattle.std.proofs.Common.{◌≡◌, ℕ, ◌+◌, ◌-◌, ◌^◌, ◌<◌, cond, List, [], ◌∷◌, length, Ok, Err, Result, sym, refl, ap, ◌∙◌, subst, arith, pow_pos}
+use Rattle.std.proofs.lemmas.Bool.{eq-eqb, ne_eqb}
 use Rattle.cancellation.specs.declared.faults.RowFault.{RowFault}
 use Rattle.cancellation.specs.declared.faults.RowFault.TheVariants.{Length}
 use Rattle.soft.specs.Kind.{Kind, Laws}
@@ -28,11 +28,26 @@ turns_in e z =
     (some.0, subst (λ n. Turns e z n some.0) all some.1)
 
 module _ {S : Type 0} (kind : Kind S) where
+  -- signs whose XOR is 1 are there
+  pub odd_some : (values : List S) (xor : ℕ) → xor ≡ parity (signs kind values) → (xor ≡ 0 → ⊥) → 0 < length values
+  odd_some [] xor is odd = absurd (odd is)
+  odd_some (v ∷ values) xor is odd = omega arith
+
   -- the signs as they are, where their XOR is 0
   pub even_word : (e : ℕ) (values : List S) (word : List ℕ) (xor : ℕ) → word ≡ signs kind values → xor ≡ parity (signs kind values) → xor ≡ 0 → Rule kind Spc e values word
   even_word e values word xor is found none =
       let some = turns_in e (size_at kind values) in
       (some.0, some.1, is ∙ sym (ap (λ t. cond t (signs kind values) (turned_at some.0 (signs kind values))) (eq-eqb (parity (signs kind values)) 0 (sym found ∙ none))))
+
+  -- one of them turned, where it is 1
+  pub odd_word : (e : ℕ) (values : List S) (word : List ℕ) (xor p : ℕ) → word ≡ signs kind values → xor ≡ parity (signs kind values) → (xor ≡ 0 → ⊥) →
+      Turns e (size_at kind values) (2 ^ e) p → Rule kind Spc e values (turned_at p word)
+  odd_word e values word xor p is found odd turns = (
+    p,
+    turns,
+    ap (turned_at p) is
+        ∙ sym (ap (λ t. cond t (signs kind values) (turned_at p (signs kind values))) (ne_eqb (parity (signs kind values)) 0 (λ z. odd (found ∙ z)))),
+  )
 
   module _ (laws : Laws kind) where
     -- the word of each rule is that of cancellation

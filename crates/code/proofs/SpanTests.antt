@@ -37,7 +37,7 @@ power_at (suc n) e h =
     (cases_eq e (suc n))
 
 -- a number with one digit set is a power of two
-one_digit : (d n : ℕ) → n ≤ d → count_ones n ≡ 1 → (e : ℕ) × (n ≡ 2 ^ e)
+pub one_digit : (d n : ℕ) → n ≤ d → count_ones n ≡ 1 → (e : ℕ) × (n ≡ 2 ^ e)
 one_digit zero n h one = absurd (omega (arith, ones_le_self n))
 one_digit (suc d) n h one =
     let s = ones_step n in
@@ -49,7 +49,7 @@ one_digit (suc d) n h one =
       | inr odd ↦ let none = zero_from_ones (n / 2) (omega arith) in (0, omega arith)
     ]
 
-power_digit : (e : ℕ) → count_ones (2 ^ e) ≡ 1
+pub power_digit : (e : ℕ) → count_ones (2 ^ e) ≡ 1
 power_digit zero = let s = ones_step 1 in let none = ones_le_self 0 in omega arith
 power_digit (suc e) =
     let s = ones_step (2 ^ suc e) in
