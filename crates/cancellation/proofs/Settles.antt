@@ -1,5 +1,5 @@
 -- What each rule's word is, and a span settled by it. Assumes nothing.
-use Rattle.std.proofs.Common.{◌≡◌, ℕ, ◌+◌, ◌-◌, ◌^◌, ◌<◌, cond, List, [], ◌∷◌, length, Ok, Err, Result, sym, refl, ap, ◌∙◌, subst, arith, pow_pos}
+use Rattle.std.proofs.Common.{◌≡◌, ℕ, ◌+◌, ◌-◌, ◌^◌, cond, List, length, Ok, Err, Result, sym, refl, ap, ◌∙◌, subst, arith, pow_pos}
 use Rattle.std.proofs.lemmas.Bool.{eq-eqb, ne_eqb}
 use Rattle.cancellation.specs.declared.faults.RowFault.{RowFault}
 use Rattle.cancellation.specs.declared.faults.RowFault.TheVariants.{Length}
@@ -28,11 +28,6 @@ turns_in e z =
     (some.0, subst (λ n. Turns e z n some.0) all some.1)
 
 module _ {S : Type 0} (kind : Kind S) where
-  -- signs whose XOR is 1 are there
-  pub odd_some : (values : List S) (xor : ℕ) → xor ≡ parity (signs kind values) → (xor ≡ 0 → ⊥) → 0 < length values
-  odd_some [] xor is odd = absurd (odd is)
-  odd_some (v ∷ values) xor is odd = omega arith
-
   -- the signs as they are, where their XOR is 0
   pub even_word : (e : ℕ) (values : List S) (word : List ℕ) (xor : ℕ) → word ≡ signs kind values → xor ≡ parity (signs kind values) → xor ≡ 0 → Rule kind Spc e values word
   even_word e values word xor is found none =

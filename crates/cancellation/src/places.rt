@@ -1,11 +1,12 @@
 // Which bit a single parity check turns.
-ghost use Rattle.std.specs.Prelude.{◌≡◌, ℕ, ◌^◌, ◌<◌, length, if◌then◌else◌, nat_eq, nat_lt};
+ghost use Rattle.std.specs.Prelude.{◌≡◌, ℕ, ◌^◌, ◌<◌, IsSomeAnd, IfSome, length, if◌then◌else◌, nat_eq, nat_lt};
 ghost use Rattle.std.specs.Int.{w64, reverse_bits};
 ghost use Rattle.cancellation.specs.Rules.{Turns, size_at};
 
 use soft::soft::Soft;
 
-// Is place i, of this size, to be turned rather than place j? Numbers of as many bits stand in one order, read in reverse within a span or within a word.
+// Is place i, of this size, to be turned rather than place j?
+// Kept as a test and two comparisons: comparing pairs would reverse both numbers at every place, and few sizes are equal. Numbers of as many bits stand in one order, read in reverse within a span or within a word.
 fn turns_before(size: u32, i: usize, other: u32, j: usize) -> bool
     ensures { result ≡ (if nat_eq size other then nat_lt (reverse_bits w64 i) (reverse_bits w64 j) else nat_lt size other) }
 {
@@ -16,13 +17,13 @@ fn turns_before(size: u32, i: usize, other: u32, j: usize) -> bool
     }
 }
 
-// The place of a span to turn: of least size, and among equals the one whose number, read in reverse, is smallest.
-pub(crate) fn place_to_turn<S: Soft + Copy>(values: &[S]) -> usize
-    ensures turns { (e : ℕ) → length values.now ≡ 2 ^ e → Turns e (size_at S.Soft.kind values.now) (2 ^ e) result }
-    ensures within { 0 < length values.now → result < length values.now }
+// The place of a span to turn: of least size, and among equals the one whose number, read in reverse, is smallest. A row of no values has none.
+pub(crate) fn place_to_turn<S: Soft + Copy>(values: &[S]) -> Option<usize>
+    ensures turns { (e : ℕ) → length values.now ≡ 2 ^ e → IsSomeAnd result (Turns e (size_at S.Soft.kind values.now) (2 ^ e)) }
+    ensures within { IfSome result (λ place. place < length values.now) }
 {
     let [first, rest @ ..] = values else {
-        return 0;
+        return None;
     };
     let mut place = 0;
     let mut least = first.size();
@@ -33,5 +34,5 @@ pub(crate) fn place_to_turn<S: Soft + Copy>(values: &[S]) -> usize
             least = size;
         }
     }
-    place
+    Some(place)
 }

@@ -24,6 +24,7 @@ pub fn check_row<S: Soft + Copy>(rows: &mut [S]) -> Result<(), RowFault>
 
 // `rows` is the row of a span and room for that of its right half, which is written: the join of the span's two halves,
 // with the bits of the left half as β.
+// Kept as bytes: the bits are the caller's.
 pub fn join_row<S: Soft + Copy>(rows: &mut [S], bits: &[u8]) -> Result<(), RowFault>
     ensures { Rowed (λ h. (length rows.old ≡ 3 * h) × (length bits.now ≡ h)) (with_join S.Soft.kind rows.old bits.now) rows.old rows.new result }
 {
@@ -40,6 +41,7 @@ pub fn join_row<S: Soft + Copy>(rows: &mut [S], bits: &[u8]) -> Result<(), RowFa
 }
 
 // The bits of a span from those of its halves: the right half is XORed onto the left.
+// Kept beside the encoder's, which it calls: this one refuses a row that has no halves.
 pub fn xor_halves(bits: &mut [u8]) -> Result<(), RowFault>
     ensures { Rowed (λ h. length bits.old ≡ 2 * h) (with_xor bits.old) bits.old bits.new result }
 {

@@ -8,6 +8,7 @@ use crate::places::place_to_turn;
 use soft::soft::Soft;
 
 // Writes the signs, and answers their XOR.
+// Kept with the lengths as a clause, here and below: a struct of the two rows would be made for one call.
 pub(crate) fn write_signs<S: Soft + Copy>(values: &[S], bits: &mut [u8]) -> u8
     requires { length bits.old ≡ length values.now }
     ensures written { bits.new ≡ signs S.Soft.kind values.now }
@@ -23,14 +24,16 @@ pub(crate) fn write_signs<S: Soft + Copy>(values: &[S], bits: &mut [u8]) -> u8
 }
 
 // Single parity check: the signs, with one of them turned where their XOR is 1.
+// Kept as a byte: the XOR is of the bytes written.
 pub(crate) fn single_parity<S: Soft + Copy>(values: &[S], bits: &mut [u8])
     requires { length bits.old ≡ length values.now }
     ensures { (e : ℕ) → length values.now ≡ 2 ^ e → Rule S.Soft.kind Spc e values.now bits.new }
 {
     let xor = write_signs(values, bits);
     if xor != 0 {
-        let place = place_to_turn(values);
-        bits[place] ^= 1;
+        if let Some(place) = place_to_turn(values) {
+            bits[place] ^= 1;
+        }
     }
 }
 
@@ -45,6 +48,7 @@ fn join_onto<S: Soft + Copy>(left: &mut [S], right: &[S])
 }
 
 // Halves the row until one value is left, in place 0.
+// Kept beside the transform: that one transforms both halves, and then XORs them.
 fn fold<S: Soft + Copy>(values: &mut [S])
     ensures { (e : ℕ) → length values.old ≡ 2 ^ e → values.new ≡ folded S.Soft.kind e values.old }
 {

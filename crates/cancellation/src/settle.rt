@@ -23,6 +23,7 @@ pub fn settle<S: Soft + Copy>(
     if !values.len().is_power_of_two() {
         return Err(RowFault::Length);
     }
+    // Kept as a match: the kinds are a closed list, and each has one rule.
     match kind {
         SpanKind::Rate0 => bits.fill(0),
         SpanKind::Rate1 => {

@@ -37,6 +37,7 @@ pub fn informed_count<M: Map>(map: &M) -> usize
 }
 
 // Are these the lengths of a message and of a word?
+// Kept as a question: its callers refuse by it, each in its own words.
 pub fn right_lengths<M: Map>(map: &M, message: usize, word: usize) -> bool
     ensures right { result ≡ (message == informed_count (M.marks map.now) && word == length (M.marks map.now)) }
     ensures whole { length (M.marks map.now) ≡ 2 ^ M.exponent map.now }
@@ -46,6 +47,7 @@ pub fn right_lengths<M: Map>(map: &M, message: usize, word: usize) -> bool
 }
 
 // Lays the message on the informed positions in rising order, 0 on the frozen ones.
+// Kept as bytes, and with the rest of the message in hand: both rows are the caller's, and a zip over `iter_mut` leaves nothing known of what was written.
 fn lay<M: Map>(map: &M, message: &[u8], word: &mut [u8])
     requires { (length word.old ≡ length (M.marks map.now)) × (length message.now ≡ informed_count (M.marks map.now)) }
     ensures { word.new ≡ laid (M.marks map.now) message.now }
@@ -71,6 +73,7 @@ pub fn encode<M: Map>(map: &M, message: &[u8], word: &mut [u8]) -> Result<(), Ma
     if !right_lengths(map, message.len(), word.len()) {
         return Err(MapFault::Buffer);
     }
+    // Kept as a test: what is found is the refusal, and `?` goes the other way.
     if let Some(at) = lowest_non_bit(message) {
         return Err(MapFault::Bit(at));
     }
@@ -80,6 +83,7 @@ pub fn encode<M: Map>(map: &M, message: &[u8], word: &mut [u8]) -> Result<(), Ma
 }
 
 // Takes the entries at the informed positions, in rising order.
+// Kept counting the next place by hand: asked for its next place, an iterator over places leaves nothing known of what is written there.
 fn gather<M: Map>(map: &M, bits: &[u8], message: &mut [u8])
     requires { (length bits.now ≡ length (M.marks map.now)) × (length message.old ≡ informed_count (M.marks map.now)) }
     ensures { message.new ≡ informed (M.marks map.now) bits.now }
@@ -94,6 +98,7 @@ fn gather<M: Map>(map: &M, bits: &[u8], message: &mut [u8])
 }
 
 // Writes the message of a word, the transform of the word at the informed positions, or refuses and leaves the output as it was. The word is as it was.
+// Kept as a clause: the word is transformed and transformed back, so no type says that it is as it was.
 pub fn message_of<M: Map>(map: &M, word: &mut [u8], message: &mut [u8]) -> Result<(), MapFault>
     ensures answer { result ≡ answer_to (message_fault (M.marks map.now) (length word.old) (length message.old)) }
     ensures message { message.new ≡ in_force (message_fault (M.marks map.now) (length word.old) (length message.old)) (informed (M.marks map.now) (transform (M.exponent map.now) word.old)) message.old }

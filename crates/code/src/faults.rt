@@ -3,6 +3,7 @@ ghost use Rattle.std.specs.Prelude.{◌≡◌};
 ghost use Rattle.code.specs.Faults.{report_of};
 
 // A refusal as the user sees it: its number, the layer that asked, and the place.
+// Kept as numbers: they are what the lines of a session print. A refusal is an enum until it is reported.
 #[derive(Clone, Copy, Debug, PartialEq, Eq)]
 pub struct Report {
     pub number: u8,

@@ -14,6 +14,7 @@ use crate::sizes::{is_span, positions};
 static NONE_INFORMED: [u8; 2] = [0, 0];
 
 // The first question about a list of marks that is answered no.
+// Kept as a match: what is found is the refusal, and `?` goes the other way.
 fn listed_fault(n: u8, bytes: &[u8]) -> Result<(), MapFault>
     ensures { result ≡ answer_to (listed_fault n bytes.now) }
 {
@@ -28,6 +29,7 @@ fn listed_fault(n: u8, bytes: &[u8]) -> Result<(), MapFault>
 
 impl<'a> Listed<'a> {
     // The smallest map that informs nothing: two positions.
+    // Kept beside the smallest order: each has its own type and its own bytes.
     pub fn smallest() -> Self
         ensures n { result.n ≡ 1 }
         ensures marks { result.marks.now ≡ 0 ∷ (0 ∷ []) }
@@ -39,6 +41,7 @@ impl<'a> Listed<'a> {
     }
 
     // The map that these bytes list, or why they are refused.
+    // Kept beside the order's: the questions differ, and what is promised of the value made.
     pub fn read(n: u8, bytes: &'a [u8]) -> Result<Self, MapFault>
         ensures answer { outcome result ≡ answer_to (listed_fault n bytes.now) }
         ensures n { IfOk result (λ map. map.n ≡ n) }
@@ -59,17 +62,16 @@ impl<'a> Map for Listed<'a> {
     }
 
     fn mark(&self, position: usize) -> Result<Mark, MapFault> {
-        let marks = self.marks;
-        if position >= marks.len() {
-            return Err(MapFault::Outside);
-        }
-        Ok(Mark::from(marks[position] == 1))
+        // Kept beside the ranked map's, and as a byte: the mark is read where the caller has it.
+        let mark = self.marks.get(position).ok_or(MapFault::Outside)?;
+        Ok(Mark::from(*mark == 1))
     }
 
     fn kind(&self, start: usize, length: usize) -> Result<Option<SpanKind>, MapFault> {
         if !is_span(self.n, start, length) {
             return Err(MapFault::Outside);
         }
+        // Kept beside the ranked map's: that one looks at four marks, this one at all.
         let marks = self.marks;
         Ok(kind_of(&marks[start..start + length]))
     }

@@ -13,6 +13,7 @@ fn is_constant(row: &[u8], value: u8) -> bool
 }
 
 // Is only the last mark informed?
+// Kept as bytes: the marks are the caller's.
 fn is_repetition(row: &[u8]) -> bool
     ensures { result ≡ same row.now (pattern Rep (length row.now)) }
 {
@@ -23,6 +24,7 @@ fn is_repetition(row: &[u8]) -> bool
 }
 
 // Is only the first mark frozen?
+// Kept as bytes: the marks are the caller's.
 fn is_single_parity(row: &[u8]) -> bool
     ensures { result ≡ same row.now (pattern Spc (length row.now)) }
 {
@@ -33,6 +35,7 @@ fn is_single_parity(row: &[u8]) -> bool
 }
 
 // The first kind whose pattern the row has.
+// Kept as tests in a row: the order in which the kinds are tried is the rule.
 pub(crate) fn kind_of(row: &[u8]) -> Option<SpanKind>
     ensures { result ≡ kind_of row.now }
 {

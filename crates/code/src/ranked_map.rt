@@ -21,6 +21,7 @@ impl<'a> Ranked<'a> {
     }
 
     // The kind of a span. Where its first and last position differ it has two or more.
+    // Kept as tests in a row: each look is made only where those before leave the kind open.
     fn kind_by_looks(&self, start: usize, length: usize) -> Option<SpanKind>
         requires { is_span self.now.order.n start length ≡ true }
         ensures { result ≡ looks_at (ranked_marks (ranks_of self.now.order.ranks.now) self.now.k) start length }
@@ -52,6 +53,7 @@ impl<'a> Map for Ranked<'a> {
     }
 
     fn mark(&self, position: usize) -> Result<Mark, MapFault> {
+        // Kept beside the listed map's: there the mark is read, here a rank is compared.
         if position >= two_to(self.order.n) {
             return Err(MapFault::Outside);
         }

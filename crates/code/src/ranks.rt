@@ -9,6 +9,7 @@ use crate::sizes::two_to;
 const MOST: usize = 1024;
 
 // As many ranks as the n of a code asks for.
+// Kept with n beside the bytes: the ghost field ties them, and the law counts bits up to n.
 #[derive(Clone, Copy)]
 pub(crate) struct Ranks<'a> {
     pub(crate) n: u8,
@@ -25,6 +26,7 @@ fn rank_is_written(bytes: &[u8], position: usize)
 {}
 
 // The rank of a position.
+// Kept as an offset: the ranks lie in the caller's bytes, two to a position.
 pub(crate) fn rank_at(bytes: &[u8], position: usize) -> usize
     requires { 2 * position + 1 < length bytes.now }
     ensures { result ≡ slice_index (ranks_of bytes.now) position }
@@ -45,6 +47,7 @@ impl<'a> Ranks<'a> {
     }
 
     // The lowest position whose rank is too large or stands before. One look at each rank: a table tells which were seen.
+    // Kept as a loop, over a table of the largest size: nothing would be known of what a closure answered that changes the table, and nothing here allocates.
     pub(crate) fn lowest_bad(self) -> Option<usize>
         ensures { result ≡ lowest_no (fresh_rank (ranks_of self.entry.bytes.now)) 0 (2 ^ self.entry.n) }
     {

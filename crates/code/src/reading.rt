@@ -17,6 +17,7 @@ fn smallest_is_accepted()
 {}
 
 // The first question about an order that is answered no. There is none where the order is lawful, and only there.
+// Kept as a test and a match: what is found is the refusal, and `?` goes the other way.
 fn order_fault(n: u8, bytes: &[u8]) -> Result<(), MapFault>
     ensures answer { result ≡ answer_to (order_fault n bytes.now) }
     ensures lawful { result ≡ Ok tt → Lawful n (ranks_of bytes.now) }
@@ -37,6 +38,7 @@ fn order_fault(n: u8, bytes: &[u8]) -> Result<(), MapFault>
 
 impl<'a> Order<'a> {
     // The smallest order: two positions, the second the more reliable.
+    // Kept beside the smallest listed map: each has its own type and its own bytes.
     pub fn smallest() -> Self
         ensures n { result.n ≡ 1 }
         ensures ranks { result.ranks.now ≡ 0 ∷ 1 ∷ 0 ∷ 0 ∷ [] }
@@ -49,6 +51,7 @@ impl<'a> Order<'a> {
     }
 
     // The order in these bytes, or why they are refused.
+    // Kept beside the listed map's: the questions differ, and what is promised of the value made.
     pub fn read(n: u8, bytes: &'a [u8]) -> Result<Self, MapFault>
         ensures answer { outcome result ≡ answer_to (order_fault n bytes.now) }
         ensures n { IfOk result (λ order. order.n ≡ n) }

@@ -5,6 +5,7 @@ ghost use Rattle.code.specs.Spans.{good_exponent, power_up_to, is_span};
 use crate::faults::MapFault;
 
 // 2 ^ n, for the n of a code or of a span within one.
+// Kept in this crate and in the receiver's: a public function asks nothing of its caller, and this one asks that n is at most 10.
 pub(crate) fn two_to(n: u8) -> usize
     requires { n ≤ 10 }
     ensures { result ≡ 2 ^ n }
@@ -24,6 +25,7 @@ pub fn positions(n: u8) -> Result<usize, MapFault>
 }
 
 // Is length one of 1, 2, 4, .. 2 ^ n?
+// Kept with the bound as a clause: a type for n would be taken apart again by the order and the maps, whose users are told n as a number.
 fn power_up_to(n: u8, length: usize) -> bool
     requires { n ≤ 10 }
     ensures { result ≡ power_up_to n length }
@@ -32,6 +34,7 @@ fn power_up_to(n: u8, length: usize) -> bool
 }
 
 // Is (start, length) a span within 2 ^ n positions?
+// Kept as a question, with the bound as a clause: both maps refuse by it, and their users are told n as a number.
 pub(crate) fn is_span(n: u8, start: usize, length: usize) -> bool
     requires { n ≤ 10 }
     ensures { result ≡ is_span n start length }

@@ -14,6 +14,7 @@ pub fn xor_halves(bits: &mut [u8])
 }
 
 // The transform of 2 ^ e bits, for any e.
+// Kept beside the halving of a repetition: that one joins values onto one half and leaves the other.
 pub(crate) fn transform_row(bits: &mut [u8])
     ensures { (e : ℕ) → length bits.old ≡ 2 ^ e → bits.new ≡ transform e bits.old }
 {

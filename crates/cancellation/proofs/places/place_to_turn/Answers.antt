@@ -49,5 +49,5 @@ returns g c =
     let all : c.loop-i.i + 1 ≡ length values = omega (arith, c.loop-i-test.false, c.loop-i.auto.i-end, rest, c.in-len1-up.len_at_least) in
     record {
       turns = λ e long. subst (λ n. Turns e z n c.loop-i.place) (all ∙ long) (c.loop-i.invariant.0 e long);
-      within = λ some. omega (arith, c.loop-i.invariant.2, all);
+      within = omega (arith, c.loop-i.invariant.2, all);
     }
