@@ -1,8 +1,12 @@
--- The values of a word, place by place, and bits that are cleared. Assumes nothing.
-use Rattle.std.proofs.Common.{◌≡◌, ℕ, zero, suc, ◌+◌, ◌-◌, ◌^◌, ◌<◌, ◌≤◌, List, [], ◌∷◌, ◌++◌, map, length, get_or, take, drop, set, replicate, sym, refl, ap, ◌∙◌, ap₂, ⊎_elim, arith}
+-- The values of a word, place by place, and its lowest byte that does not read. Assumes nothing.
+use Rattle.std.proofs.Common.{◌≡◌, ℕ, zero, suc, ◌+◌, ◌-◌, ◌^◌, ◌<◌, ◌≤◌, Bool, true, false, cond, List, [], Some, None, Option, ◌∷◌, map, length, get_or, take, replicate, sym, refl, ap, ◌∙◌, ap₂, ⊎_elim, arith}
 use lib.ListN.{length-map}
-use Rattle.std.proofs.lemmas.List.{length-append, length-drop, length-replicate, length-take, get_or_append_left, get_or-append_right, get_or-replicate, get_or-map, get_or-take, get_or-drop, ext_get_or, same_lists, get_or-set_same, get_or-set_other}
+use Rattle.std.proofs.lemmas.List.{length-append, length-replicate, length-take, get_or_append_left, get_or-append_right, get_or-replicate, get_or-map, get_or-take, same_lists}
 use Rattle.std.proofs.lemmas.Bool.{cases_lt, cases_eq}
+use Rattle.std.specs.Option.{MatchOption, unwrap_or}
+use Rattle.std.specs.List.{AllWithin, HoldsAt}
+use Rattle.code.specs.Spans.{lowest_no}
+use Rattle.code.proofs.Lowest.{all_pass}
 use Rattle.soft.specs.Kind.{Kind}
 use Rattle.receiver.specs.Model.{value_of, value_at, values_of}
 
@@ -16,6 +20,14 @@ module _ {S : Type 0} (kind : Kind S) where
   value_past [] i h = refl
   value_past (b ∷ bytes) zero h = absurd (omega arith)
   value_past (b ∷ bytes) (suc i) h = value_past bytes i (omega arith)
+
+  -- the same, as the code finds it
+  pub value_found : (bytes : List ℕ) (i b : ℕ) → i < length bytes → b ≡ get_or bytes i 0 → value_at kind bytes i ≡ unwrap_or (kind.read b) kind.fill
+  value_found bytes i b h is = value_read bytes i h ∙ ap (λ y. value_of kind (kind.read y)) (sym is) ∙ go (kind.read b)
+    where
+      go : (o : Option S) → value_of kind o ≡ unwrap_or o kind.fill
+      go None = refl
+      go (Some v) = refl
 
   pub length_values : (n : ℕ) (bytes : List ℕ) → length bytes ≤ 2 ^ n → length (values_of kind n bytes) ≡ 2 ^ n
   length_values n bytes fits =
@@ -41,24 +53,21 @@ module _ {S : Type 0} (kind : Kind S) where
       same_lists (take (2 ^ n) soft) (values_of kind n bytes) (lt ∙ sym (length_values n bytes fits))
       (λ k d h. let w : k < 2 ^ n = omega arith in get_or-take (2 ^ n) soft k d w ∙ each k d w ∙ sym (get_or-values n bytes k d fits w))
 
--- bits that are each 2 as far as `size`, and as they were from there on
-pub cleared : (size : ℕ) (old new : List ℕ) → size ≤ length old → length new ≡ length old →
-    ((k : ℕ) → k < size → get_or new k 0 ≡ 2) → ((k : ℕ) → size ≤ k → get_or new k 0 ≡ get_or old k 0) → new ≡ replicate size 2 ++ drop size old
-cleared size old new room kept front back =
-    let lr : length (replicate {A = ℕ} size 2) ≡ size = length-replicate {A = ℕ} size 2 in
-    ext_get_or 0 new (replicate size 2 ++ drop size old)
-    (kept ∙ sym (length-append (replicate size 2) (drop size old) ∙ ap₂ ◌+◌ lr (length-drop size old) ∙ omega arith))
-    (λ k h. ⊎_elim
-    (λ w. front k w ∙ sym (get_or_append_left (replicate size 2) (drop size old) 0 k (omega arith) ∙ get_or-replicate size k 2 0 w))
-    (λ w. let j : size + (k - size) ≡ k = omega arith in
-    back k w ∙ sym (get_or-append_right (replicate size 2) (drop size old) size k 0 lr w ∙ get_or-drop size old (k - size) 0 ∙ ap (λ i. get_or old i 0) j))
-    (cases_lt k size))
+-- the lowest of some places that fails, where those before it pass
+lowest_first : (test : ℕ → Bool) (at count i : ℕ) → at ≤ i → i < at + count → ((k : ℕ) → at ≤ k → k < i → test k ≡ true) → test i ≡ false → lowest_no test at count ≡ Some i
+lowest_first test at zero i low high before here = absurd (omega arith)
+lowest_first test at (suc count) i low high before here =
+    ⊎_elim
+    (λ e. ap (λ b. cond b (lowest_no test (suc at) count) (Some at)) (ap test e ∙ here) ∙ ap Some e)
+    (λ ne. ap (λ b. cond b (lowest_no test (suc at) count) (Some at)) (before at (omega arith) (omega arith))
+    ∙ lowest_first test (suc at) count i (omega arith) (omega arith) (λ k h. before k (omega arith)) here)
+    (cases_eq at i)
 
--- one bit more is cleared
-pub set_on : (bits old : List ℕ) (i : ℕ) → i < length bits → ((k : ℕ) → k < i → get_or bits k 0 ≡ 2) → ((k : ℕ) → i ≤ k → get_or bits k 0 ≡ get_or old k 0) →
-    ((k : ℕ) → k < i + 1 → get_or (set bits i 2) k 0 ≡ 2) × ((k : ℕ) → i + 1 ≤ k → get_or (set bits i 2) k 0 ≡ get_or old k 0)
-set_on bits old i room front back = (
-  λ k h. ⊎_elim (λ (e : k ≡ i). ap (λ j. get_or (set bits i 2) j 0) e ∙ get_or-set_same bits i 2 0 room)
-      (λ (ne : k ≡ i → ⊥). get_or-set_other bits i k 2 0 ne ∙ front k (omega arith)) (cases_eq k i),
-  λ k h. get_or-set_other bits i k 2 0 (λ (e : k ≡ i). omega arith) ∙ back k (omega arith),
-)
+-- the first element of a list that fails, as `position` gives it
+pub lowest_from_position : (test : ℕ → Bool) (xs : List ℕ) (o : Option ℕ) →
+    MatchOption o (AllWithin (λ x. test x ≡ true) xs 0 (length xs))
+    (λ i. (i < length xs) × HoldsAt (λ x. test x ≡ false) xs i × AllWithin (λ x. test x ≡ true) xs 0 i) →
+    o ≡ lowest_no (λ p. test (get_or xs p 0)) 0 (length xs)
+lowest_from_position test xs None all = sym (all_pass (λ p. test (get_or xs p 0)) 0 (length xs) (λ p low high. all p 0 low (omega arith)))
+lowest_from_position test xs (Some i) (lt, here, before) =
+    sym (lowest_first (λ p. test (get_or xs p 0)) 0 (length xs) i (omega arith) (omega arith) (λ k low h. before k 0 low h) (here 0))

@@ -7,6 +7,7 @@ pub mod Coherence
 pub mod Faults
 pub mod Histories
 pub mod Law
+pub mod Lent
 pub mod Model
 pub mod Stacks
 pub mod States

@@ -1,10 +1,11 @@
 // As many steps as an allowance and the remaining work permit.
 ghost use Rattle.std.specs.Prelude.{◌≡◌, ◌≤◌};
+ghost use Rattle.receiver.specs.Lent.{SameLoans};
 ghost use Rattle.receiver.specs.Capping.{caps_of};
 ghost use Rattle.receiver.specs.Steps.{Roomy, Inside, Walks};
 
 use crate::caps::Caps;
-use crate::memory::Step;
+use crate::memory::Memory;
 use crate::steps::make_step;
 use code::map::Map;
 use soft::soft::Soft;
@@ -20,22 +21,21 @@ pub(crate) struct Progress {
 pub(crate) fn make_steps<M: Map, S: Soft + Copy>(
     map: &M,
     caps: Caps,
-    soft: &mut [S],
-    pending: &mut [Step],
-    bits: &mut [u8],
+    memory: &mut Memory<S>,
     from: usize,
     allowance: u16,
 ) -> Progress
-    requires room { Roomy (M.Map.exponent map.now) soft.old pending.old bits.old }
+    requires room { Roomy (M.Map.exponent map.now) memory.old.soft.now memory.old.pending.now memory.old.bits.now }
     requires few { from ≤ 64 }
-    ensures walks { Walks S.Soft.kind (M.Map.exponent map.now) (M.Map.marks map.now) (caps_of caps) allowance from soft.old pending.old bits.old result.made result.height soft.new pending.new bits.new }
-    ensures inside { Inside (M.Map.exponent map.now) result.height bits.old bits.new }
+    ensures walks { Walks S.Soft.kind (M.Map.exponent map.now) (M.Map.marks map.now) (caps_of caps) allowance from memory.old.soft.now memory.old.pending.now memory.old.bits.now result.made result.height memory.new.soft.now memory.new.pending.now memory.new.bits.now }
+    ensures inside { Inside (M.Map.exponent map.now) result.height memory.old.bits.now memory.new.bits.now }
     ensures most { result.made ≤ allowance }
+    ensures lent { SameLoans memory.old memory.new }
 {
     let mut height = from;
     let mut made = 0;
     while made < allowance && height > 0 {
-        height = make_step(map, caps, soft, pending, bits, height);
+        height = make_step(map, caps, memory, height);
         made += 1;
     }
     Progress { made, height }

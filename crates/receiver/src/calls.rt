@@ -1,47 +1,39 @@
 // What each of the receiver's calls does.
 ghost use Rattle.std.specs.Prelude.{◌≡◌, ℕ, ◌+◌, ◌-◌, ◌^◌, ◌≤◌, min, ◌&&◌, T, List, length, take, Ok, Err};
+ghost use Rattle.receiver.specs.Lent.{SameLoans};
 ghost use Rattle.receiver.specs.declared.memory.Step.{Step as Pending};
 ghost use Rattle.receiver.specs.Agreement.{Agrees, room_for, roomy};
 ghost use Rattle.receiver.specs.Admissions.{admitted, replied, in_force};
 ghost use Rattle.receiver.specs.Model.{Model, fresh, caps_fault, full_length, short_length, right_buffers, message_in};
-ghost use Rattle.receiver.specs.Words.{TakenInHand, word_door, take_door, steps_kept, advance_door, kept_after, Goes, answer_of};
+ghost use Rattle.receiver.specs.Words.{TakenInHand, word_door, take_asked, steps_kept, advance_door, kept_after, Goes, answer_of};
 
 use crate::advancing::{Progress, make_steps};
 use crate::answers::Advance;
 use crate::caps::Caps;
 use crate::faults::ReceiverFault;
-use crate::loading::{clear_bits, load, lowest_unread, push_on};
-use crate::memory::{Next, Step};
+use crate::loading::{clear_bits, load, lowest_unread};
+use crate::memory::{Memory, Next, Step};
+use crate::pending::put_alone;
 use crate::receiver::Receiver;
-use crate::rowing::length_of;
 use crate::states::{Asked, State, admit};
-use code::encode::{informed_count, message_of};
+use code::encode::{informed_count, message_of, position_count};
 use code::map::Map;
 use soft::soft::Soft;
 use std::marker::PhantomData;
 
 // Is the memory large enough for the map's positions: 2N soft numbers, 64 pending steps and N bits?
-fn has_room<M: Map>(map: &M, soft: usize, pending: usize, bits: usize) -> bool
-    ensures { result ≡ room_for (M.Map.exponent map.now) soft pending bits }
+fn has_room<M: Map, S>(map: &M, memory: &Memory<S>) -> bool
+    ensures { result ≡ roomy (M.Map.exponent map.now) memory.now.soft.now memory.now.pending.now memory.now.bits.now }
 {
-    let size = length_of(map.n());
-    if soft < 2 * size {
-        return false;
-    }
-    if pending < 64 {
-        return false;
-    }
-    bits >= size
+    let size = position_count(map);
+    memory.soft.len() >= 2 * size && memory.pending.len() >= 64 && memory.bits.len() >= size
 }
 
 // Have the message and the word a byte for each informed position and for each position?
 fn right_buffers<M: Map>(map: &M, message: usize, word: usize) -> bool
     ensures { result ≡ right_buffers (M.Map.exponent map.now) (M.Map.marks map.now) message word }
 {
-    if message != informed_count(map) {
-        return false;
-    }
-    word == length_of(map.n())
+    message == informed_count(map) && word == position_count(map)
 }
 
 // How many steps were made of the word in hand.
@@ -50,8 +42,7 @@ fn steps_kept(state: State) -> u32
 {
     match state {
         State::Idle => 0,
-        State::Working(_, steps) => steps,
-        State::Finished(steps) => steps,
+        State::Working(_, steps) | State::Finished(steps) => steps,
     }
 }
 
@@ -68,12 +59,11 @@ fn kept_after(progress: Progress, steps: u32) -> State
 }
 
 // Copies the first bits of the work memory.
-fn copy_front(bits: &mut [u8], word: &mut [u8], size: usize)
-    requires { (size ≤ length bits.old) × (length word.old ≡ size) }
-    ensures word { word.new ≡ take size bits.old }
-    ensures bits { bits.new ≡ bits.old }
+fn copy_front<S>(memory: &Memory<S>, word: &mut [u8], size: usize)
+    requires { (size ≤ length memory.now.bits.now) × (length word.old ≡ size) }
+    ensures { word.new ≡ take size memory.now.bits.now }
 {
-    word.copy_from_slice(&bits[0..size]);
+    word.copy_from_slice(&memory.bits[..size]);
 }
 
 impl<M: Map + Copy, S: Soft + Copy> Receiver<M, S> {
@@ -94,10 +84,7 @@ impl<M: Map + Copy, S: Soft + Copy> Receiver<M, S> {
         ensures caps { self.new.caps ≡ in_force (caps_fault first second) (record { first = first; second = second }) self.old.caps }
         ensures rest { (self.new.map ≡ self.old.map) × (self.new.state ≡ self.old.state) }
     {
-        if first > 10 {
-            return Err(ReceiverFault::Cap);
-        }
-        if second > 10 {
+        if first > 10 || second > 10 {
             return Err(ReceiverFault::Cap);
         }
         self.caps = Caps { first, second };
@@ -118,36 +105,34 @@ impl<M: Map + Copy, S: Soft + Copy> Receiver<M, S> {
     // Takes a word in hand whose length `fits`.
     pub(crate) fn begin(
         &mut self,
-        soft: &mut [S],
-        pending: &mut [Step],
-        bits: &mut [u8],
+        memory: &mut Memory<S>,
         bytes: &[u8],
         fits: bool,
     ) -> Result<(), ReceiverFault>
         requires { T fits → length bytes.now ≤ 2 ^ M.Map.exponent self.old.map }
-        ensures taken { TakenInHand S.Soft.kind (M.Map.exponent self.old.map) (word_door S.Soft.kind self.old.state fits (roomy (M.Map.exponent self.old.map) soft.old pending.old bits.old) bytes.now) bytes.now soft.old soft.new pending.old pending.new bits.old bits.new self.old.state self.new.state result }
+        ensures taken { TakenInHand S.Soft.kind (M.Map.exponent self.old.map) (word_door S.Soft.kind self.old.state fits (roomy (M.Map.exponent self.old.map) memory.old.soft.now memory.old.pending.now memory.old.bits.now) bytes.now) bytes.now memory.old.soft.now memory.new.soft.now memory.old.pending.now memory.new.pending.now memory.old.bits.now memory.new.bits.now self.old.state self.new.state result }
         ensures rest { (self.new.map ≡ self.old.map) × (self.new.caps ≡ self.old.caps) }
+        ensures lent { SameLoans memory.old memory.new }
     {
         admit(self.state, Asked::Word)?;
         if !fits {
             return Err(ReceiverFault::Length);
         }
-        if !has_room(&self.map, soft.len(), pending.len(), bits.len()) {
+        if !has_room(&self.map, memory) {
             return Err(ReceiverFault::Memory);
         }
         if let Some(at) = lowest_unread::<S>(bytes) {
             return Err(ReceiverFault::Byte(at));
         }
-        let n = self.map.n();
-        let size = length_of(n);
-        load(soft, bytes, size);
-        clear_bits(bits, size);
+        let size = position_count(&self.map);
+        load(memory.soft, bytes, size);
+        clear_bits(memory.bits, size);
         let first = Step {
             next: Next::First,
             start: 0,
-            e: n,
+            e: self.map.n(),
         };
-        push_on(pending, 0, first);
+        put_alone(memory.pending, first);
         self.state = State::Working(1, 0);
         Ok(())
     }
@@ -155,28 +140,27 @@ impl<M: Map + Copy, S: Soft + Copy> Receiver<M, S> {
     // Writes the word that was decoded and its message, ends the word, and answers all steps made.
     pub(crate) fn hand_over(
         &mut self,
-        soft: &mut [S],
-        pending: &mut [Step],
-        bits: &mut [u8],
+        memory: &mut Memory<S>,
         message: &mut [u8],
         word: &mut [u8],
     ) -> Result<u32, ReceiverFault>
-        ensures answer { result ≡ replied (take_door self.old.state (roomy (M.Map.exponent self.old.map) soft.old pending.old bits.old) (right_buffers (M.Map.exponent self.old.map) (M.Map.marks self.old.map) (length message.old) (length word.old))) (steps_kept self.old.state) }
-        ensures word { word.new ≡ in_force (take_door self.old.state (roomy (M.Map.exponent self.old.map) soft.old pending.old bits.old) (right_buffers (M.Map.exponent self.old.map) (M.Map.marks self.old.map) (length message.old) (length word.old))) (take (2 ^ M.Map.exponent self.old.map) bits.old) word.old }
-        ensures message { message.new ≡ in_force (take_door self.old.state (roomy (M.Map.exponent self.old.map) soft.old pending.old bits.old) (right_buffers (M.Map.exponent self.old.map) (M.Map.marks self.old.map) (length message.old) (length word.old))) (message_in (M.Map.exponent self.old.map) (M.Map.marks self.old.map) (take (2 ^ M.Map.exponent self.old.map) bits.old)) message.old }
-        ensures state { self.new.state ≡ in_force (take_door self.old.state (roomy (M.Map.exponent self.old.map) soft.old pending.old bits.old) (right_buffers (M.Map.exponent self.old.map) (M.Map.marks self.old.map) (length message.old) (length word.old))) State.Idle self.old.state }
+        ensures answer { result ≡ replied (take_asked self.old.state (M.Map.exponent self.old.map) (M.Map.marks self.old.map) memory.old (length message.old) (length word.old)) (steps_kept self.old.state) }
+        ensures word { word.new ≡ in_force (take_asked self.old.state (M.Map.exponent self.old.map) (M.Map.marks self.old.map) memory.old (length message.old) (length word.old)) (take (2 ^ M.Map.exponent self.old.map) memory.old.bits.now) word.old }
+        ensures message { message.new ≡ in_force (take_asked self.old.state (M.Map.exponent self.old.map) (M.Map.marks self.old.map) memory.old (length message.old) (length word.old)) (message_in (M.Map.exponent self.old.map) (M.Map.marks self.old.map) (take (2 ^ M.Map.exponent self.old.map) memory.old.bits.now)) message.old }
+        ensures state { self.new.state ≡ in_force (take_asked self.old.state (M.Map.exponent self.old.map) (M.Map.marks self.old.map) memory.old (length message.old) (length word.old)) State.Idle self.old.state }
         ensures rest { (self.new.map ≡ self.old.map) × (self.new.caps ≡ self.old.caps) }
-        ensures kept { (soft.new ≡ soft.old) × (pending.new ≡ pending.old) × (bits.new ≡ bits.old) }
+        ensures lent { SameLoans memory.old memory.new }
+        ensures kept { (memory.new.soft.now ≡ memory.old.soft.now) × (memory.new.pending.now ≡ memory.old.pending.now) × (memory.new.bits.now ≡ memory.old.bits.now) }
     {
         admit(self.state, Asked::Take)?;
-        if !has_room(&self.map, soft.len(), pending.len(), bits.len()) {
+        if !has_room(&self.map, memory) {
             return Err(ReceiverFault::Memory);
         }
-        let size = length_of(self.map.n());
+        let size = position_count(&self.map);
         if !right_buffers(&self.map, message.len(), word.len()) {
             return Err(ReceiverFault::Length);
         }
-        copy_front(bits, word, size);
+        copy_front(memory, word, size);
         let _ = message_of(&self.map, word, message);
         let steps = steps_kept(self.state);
         self.state = State::Idle;
@@ -186,22 +170,21 @@ impl<M: Map + Copy, S: Soft + Copy> Receiver<M, S> {
     // Makes as many steps as the allowance and the remaining work permit.
     pub(crate) fn go_on(
         &mut self,
-        soft: &mut [S],
-        pending: &mut [Step],
-        bits: &mut [u8],
+        memory: &mut Memory<S>,
         allowance: u16,
     ) -> Result<Advance, ReceiverFault>
-        ensures goes { Goes S.Soft.kind (M.Map.exponent self.old.map) (M.Map.marks self.old.map) self.old.caps allowance (advance_door self.old.state (roomy (M.Map.exponent self.old.map) soft.old pending.old bits.old)) self.old.state self.new.state soft.old pending.old bits.old soft.new pending.new bits.new (answer_of result) }
+        ensures goes { Goes S.Soft.kind (M.Map.exponent self.old.map) (M.Map.marks self.old.map) self.old.caps allowance (advance_door self.old.state (roomy (M.Map.exponent self.old.map) memory.old.soft.now memory.old.pending.now memory.old.bits.now)) self.old.state self.new.state memory.old.soft.now memory.old.pending.now memory.old.bits.now memory.new.soft.now memory.new.pending.now memory.new.bits.now (answer_of result) }
         ensures rest { (self.new.map ≡ self.old.map) × (self.new.caps ≡ self.old.caps) }
+        ensures lent { SameLoans memory.old memory.new }
     {
         admit(self.state, Asked::Advance)?;
-        if !has_room(&self.map, soft.len(), pending.len(), bits.len()) {
+        if !has_room(&self.map, memory) {
             return Err(ReceiverFault::Memory);
         }
         match self.state {
             State::Working(height, steps) => {
                 let caps = self.caps;
-                let progress = make_steps(&self.map, caps, soft, pending, bits, height, allowance);
+                let progress = make_steps(&self.map, caps, memory, height, allowance);
                 self.state = kept_after(progress, steps);
                 Ok(Advance {
                     made: progress.made,

@@ -25,11 +25,12 @@ pub enum ReceiverFault {
     Byte(usize),
 }
 
-impl ReceiverFault {
-    pub fn report(self) -> Report
-        ensures { result ≡ report_of self }
-    {
-        let (number, place) = match self {
+// A refusal as the user sees it.
+impl From<ReceiverFault> for Report {
+    ghost from_gives = { λ fault r. r ≡ report_of fault };
+
+    fn from(fault: ReceiverFault) -> Report {
+        let (number, place) = match fault {
             ReceiverFault::Map(fault) => return fault.report(),
             ReceiverFault::Length => (8, 0),
             ReceiverFault::Memory => (9, 0),

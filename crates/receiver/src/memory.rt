@@ -1,4 +1,4 @@
-// The pending steps in the work memory that a receiver's caller hands it at each call: 2N soft numbers, 64 pending steps and N bits, or more of each.
+// The work memory that a receiver's caller hands it at each call.
 
 // What comes next of an open span.
 #[derive(Clone, Copy)]
@@ -17,4 +17,12 @@ pub struct Step {
     pub next: Next,
     pub start: usize,
     pub e: u8,
+}
+
+// Lent memory: 2N soft numbers, 64 pending steps and N bits, or more of each.
+#[derive(Drop)]
+pub struct Memory<'a, S> {
+    pub soft: &'a mut [S],
+    pub pending: &'a mut [Step],
+    pub bits: &'a mut [u8],
 }

@@ -1,30 +1,24 @@
 // The receiver's seven calls, each with the law over every list of calls that has led to it.
 ghost use Rattle.std.specs.Prelude.{◌≡◌, ℕ, ◌^◌, ◌&&◌, List, [], length, take, nat_le};
+ghost use Rattle.receiver.specs.Lent.{SameLoans};
 ghost use Rattle.receiver.specs.declared.memory.Step.{Step as Pending};
 ghost use Rattle.receiver.specs.Admissions.{admitted, replied, in_force};
 ghost use Rattle.receiver.specs.Agreement.{roomy};
 ghost use Rattle.receiver.specs.Calls.{Call};
 ghost use Rattle.receiver.specs.Histories.{Led, Continues, Stays, Anew, plain, went_to, taken_as};
 ghost use Rattle.receiver.specs.Model.{caps_fault, full_length, short_length, right_buffers, message_in};
-ghost use Rattle.receiver.specs.Words.{TakenInHand, word_door, take_door, steps_kept, advance_door, Goes, answer_of};
+ghost use Rattle.receiver.specs.Words.{TakenInHand, word_door, take_asked, steps_kept, advance_door, Goes, answer_of};
 
 use crate::answers::Advance;
 use crate::caps::Caps;
 use crate::faults::ReceiverFault;
-use crate::memory::Step;
+use crate::memory::Memory;
 use crate::receiver::Receiver;
-use crate::rowing::length_of;
 use crate::states::{Asked, State};
+use code::encode::position_count;
 use code::map::Map;
 use soft::soft::Soft;
 use std::marker::PhantomData;
-
-// May a short word have this many bytes?
-fn is_short(length: usize, size: usize) -> bool
-    ensures { result ≡ (nat_le 1 length && nat_le length size) }
-{
-    1 <= length && length <= size
-}
 
 impl<M: Map + Copy, S: Soft + Copy> Receiver<M, S> {
     // A new receiver: caps 10 and 10, and no word in hand.
@@ -75,80 +69,71 @@ impl<M: Map + Copy, S: Soft + Copy> Receiver<M, S> {
     }
 
     // Takes a word of N bytes in hand.
-    pub fn word(
-        &mut self,
-        soft: &mut [S],
-        pending: &mut [Step],
-        bits: &mut [u8],
-        bytes: &[u8],
-    ) -> Result<(), ReceiverFault>
-        ensures taken { TakenInHand S.Soft.kind (M.Map.exponent self.old.map) (word_door S.Soft.kind self.old.state (full_length (M.Map.exponent self.old.map) (length bytes.now)) (roomy (M.Map.exponent self.old.map) soft.old pending.old bits.old) bytes.now) bytes.now soft.old soft.new pending.old pending.new bits.old bits.new self.old.state self.new.state result }
+    pub fn word(&mut self, memory: &mut Memory<S>, bytes: &[u8]) -> Result<(), ReceiverFault>
+        ensures taken { TakenInHand S.Soft.kind (M.Map.exponent self.old.map) (word_door S.Soft.kind self.old.state (full_length (M.Map.exponent self.old.map) (length bytes.now)) (roomy (M.Map.exponent self.old.map) memory.old.soft.now memory.old.pending.now memory.old.bits.now) bytes.now) bytes.now memory.old.soft.now memory.new.soft.now memory.old.pending.now memory.new.pending.now memory.old.bits.now memory.new.bits.now self.old.state self.new.state result }
         ensures rest { (self.new.map ≡ self.old.map) × (self.new.caps ≡ self.old.caps) }
-        ensures law { Continues S.Soft.kind (Call.word (roomy (M.Map.exponent self.old.map) soft.old pending.old bits.old) bytes.now) (plain result) (M.Map.exponent self.old.map) (M.Map.marks self.old.map) self.old.caps self.old.state soft.old pending.old bits.old (M.Map.exponent self.new.map) (M.Map.marks self.new.map) self.new.caps self.new.state soft.new pending.new bits.new }
-        ensures stays { Stays S.Soft.kind (Call.word (roomy (M.Map.exponent self.old.map) soft.old pending.old bits.old) bytes.now) (plain result) (M.Map.exponent self.old.map) (M.Map.marks self.old.map) self.old.caps self.old.state (M.Map.exponent self.new.map) (M.Map.marks self.new.map) self.new.caps self.new.state }
+        ensures lent { SameLoans memory.old memory.new }
+        ensures law { Continues S.Soft.kind (Call.word (roomy (M.Map.exponent self.old.map) memory.old.soft.now memory.old.pending.now memory.old.bits.now) bytes.now) (plain result) (M.Map.exponent self.old.map) (M.Map.marks self.old.map) self.old.caps self.old.state memory.old.soft.now memory.old.pending.now memory.old.bits.now (M.Map.exponent self.new.map) (M.Map.marks self.new.map) self.new.caps self.new.state memory.new.soft.now memory.new.pending.now memory.new.bits.now }
+        ensures stays { Stays S.Soft.kind (Call.word (roomy (M.Map.exponent self.old.map) memory.old.soft.now memory.old.pending.now memory.old.bits.now) bytes.now) (plain result) (M.Map.exponent self.old.map) (M.Map.marks self.old.map) self.old.caps self.old.state (M.Map.exponent self.new.map) (M.Map.marks self.new.map) self.new.caps self.new.state }
     {
-        let size = length_of(self.map.n());
-        self.begin(soft, pending, bits, bytes, bytes.len() == size)
+        // that the map means a list of marks
+        let _n = self.map.n();
+        let fits = bytes.len() == position_count(&self.map);
+        self.begin(memory, bytes, fits)
     }
 
     // Takes a word of 1 to N bytes in hand; the fill stands for the positions that were not sent.
-    pub fn short_word(
-        &mut self,
-        soft: &mut [S],
-        pending: &mut [Step],
-        bits: &mut [u8],
-        bytes: &[u8],
-    ) -> Result<(), ReceiverFault>
-        ensures taken { TakenInHand S.Soft.kind (M.Map.exponent self.old.map) (word_door S.Soft.kind self.old.state (short_length (M.Map.exponent self.old.map) (length bytes.now)) (roomy (M.Map.exponent self.old.map) soft.old pending.old bits.old) bytes.now) bytes.now soft.old soft.new pending.old pending.new bits.old bits.new self.old.state self.new.state result }
+    pub fn short_word(&mut self, memory: &mut Memory<S>, bytes: &[u8]) -> Result<(), ReceiverFault>
+        ensures taken { TakenInHand S.Soft.kind (M.Map.exponent self.old.map) (word_door S.Soft.kind self.old.state (short_length (M.Map.exponent self.old.map) (length bytes.now)) (roomy (M.Map.exponent self.old.map) memory.old.soft.now memory.old.pending.now memory.old.bits.now) bytes.now) bytes.now memory.old.soft.now memory.new.soft.now memory.old.pending.now memory.new.pending.now memory.old.bits.now memory.new.bits.now self.old.state self.new.state result }
         ensures rest { (self.new.map ≡ self.old.map) × (self.new.caps ≡ self.old.caps) }
-        ensures law { Continues S.Soft.kind (Call.short_word (roomy (M.Map.exponent self.old.map) soft.old pending.old bits.old) bytes.now) (plain result) (M.Map.exponent self.old.map) (M.Map.marks self.old.map) self.old.caps self.old.state soft.old pending.old bits.old (M.Map.exponent self.new.map) (M.Map.marks self.new.map) self.new.caps self.new.state soft.new pending.new bits.new }
-        ensures stays { Stays S.Soft.kind (Call.short_word (roomy (M.Map.exponent self.old.map) soft.old pending.old bits.old) bytes.now) (plain result) (M.Map.exponent self.old.map) (M.Map.marks self.old.map) self.old.caps self.old.state (M.Map.exponent self.new.map) (M.Map.marks self.new.map) self.new.caps self.new.state }
+        ensures lent { SameLoans memory.old memory.new }
+        ensures law { Continues S.Soft.kind (Call.short_word (roomy (M.Map.exponent self.old.map) memory.old.soft.now memory.old.pending.now memory.old.bits.now) bytes.now) (plain result) (M.Map.exponent self.old.map) (M.Map.marks self.old.map) self.old.caps self.old.state memory.old.soft.now memory.old.pending.now memory.old.bits.now (M.Map.exponent self.new.map) (M.Map.marks self.new.map) self.new.caps self.new.state memory.new.soft.now memory.new.pending.now memory.new.bits.now }
+        ensures stays { Stays S.Soft.kind (Call.short_word (roomy (M.Map.exponent self.old.map) memory.old.soft.now memory.old.pending.now memory.old.bits.now) bytes.now) (plain result) (M.Map.exponent self.old.map) (M.Map.marks self.old.map) self.old.caps self.old.state (M.Map.exponent self.new.map) (M.Map.marks self.new.map) self.new.caps self.new.state }
     {
-        let size = length_of(self.map.n());
-        let fits = is_short(bytes.len(), size);
-        self.begin(soft, pending, bits, bytes, fits)
+        // that the map means a list of marks
+        let _n = self.map.n();
+        let fits = (1..=position_count(&self.map)).contains(&bytes.len());
+        self.begin(memory, bytes, fits)
     }
 
     // Makes as many steps as the allowance and the remaining work permit.
     pub fn advance(
         &mut self,
-        soft: &mut [S],
-        pending: &mut [Step],
-        bits: &mut [u8],
+        memory: &mut Memory<S>,
         allowance: u16,
     ) -> Result<Advance, ReceiverFault>
-        ensures goes { Goes S.Soft.kind (M.Map.exponent self.old.map) (M.Map.marks self.old.map) self.old.caps allowance (advance_door self.old.state (roomy (M.Map.exponent self.old.map) soft.old pending.old bits.old)) self.old.state self.new.state soft.old pending.old bits.old soft.new pending.new bits.new (answer_of result) }
+        ensures goes { Goes S.Soft.kind (M.Map.exponent self.old.map) (M.Map.marks self.old.map) self.old.caps allowance (advance_door self.old.state (roomy (M.Map.exponent self.old.map) memory.old.soft.now memory.old.pending.now memory.old.bits.now)) self.old.state self.new.state memory.old.soft.now memory.old.pending.now memory.old.bits.now memory.new.soft.now memory.new.pending.now memory.new.bits.now (answer_of result) }
         ensures rest { (self.new.map ≡ self.old.map) × (self.new.caps ≡ self.old.caps) }
-        ensures law { Continues S.Soft.kind (Call.advance (roomy (M.Map.exponent self.old.map) soft.old pending.old bits.old) allowance) (went_to (answer_of result)) (M.Map.exponent self.old.map) (M.Map.marks self.old.map) self.old.caps self.old.state soft.old pending.old bits.old (M.Map.exponent self.new.map) (M.Map.marks self.new.map) self.new.caps self.new.state soft.new pending.new bits.new }
-        ensures stays { Stays S.Soft.kind (Call.advance (roomy (M.Map.exponent self.old.map) soft.old pending.old bits.old) allowance) (went_to (answer_of result)) (M.Map.exponent self.old.map) (M.Map.marks self.old.map) self.old.caps self.old.state (M.Map.exponent self.new.map) (M.Map.marks self.new.map) self.new.caps self.new.state }
+        ensures lent { SameLoans memory.old memory.new }
+        ensures law { Continues S.Soft.kind (Call.advance (roomy (M.Map.exponent self.old.map) memory.old.soft.now memory.old.pending.now memory.old.bits.now) allowance) (went_to (answer_of result)) (M.Map.exponent self.old.map) (M.Map.marks self.old.map) self.old.caps self.old.state memory.old.soft.now memory.old.pending.now memory.old.bits.now (M.Map.exponent self.new.map) (M.Map.marks self.new.map) self.new.caps self.new.state memory.new.soft.now memory.new.pending.now memory.new.bits.now }
+        ensures stays { Stays S.Soft.kind (Call.advance (roomy (M.Map.exponent self.old.map) memory.old.soft.now memory.old.pending.now memory.old.bits.now) allowance) (went_to (answer_of result)) (M.Map.exponent self.old.map) (M.Map.marks self.old.map) self.old.caps self.old.state (M.Map.exponent self.new.map) (M.Map.marks self.new.map) self.new.caps self.new.state }
     {
         // that the map has at most 1024 positions
         let _n = self.map.n();
-        self.go_on(soft, pending, bits, allowance)
+        self.go_on(memory, allowance)
     }
 
     // Writes the word that was decoded and its message, ends the word, and answers all steps made.
     pub fn take(
         &mut self,
-        soft: &mut [S],
-        pending: &mut [Step],
-        bits: &mut [u8],
+        memory: &mut Memory<S>,
         message: &mut [u8],
         word: &mut [u8],
     ) -> Result<u32, ReceiverFault>
-        ensures answer { result ≡ replied (take_door self.old.state (roomy (M.Map.exponent self.old.map) soft.old pending.old bits.old) (right_buffers (M.Map.exponent self.old.map) (M.Map.marks self.old.map) (length message.old) (length word.old))) (steps_kept self.old.state) }
-        ensures word { word.new ≡ in_force (take_door self.old.state (roomy (M.Map.exponent self.old.map) soft.old pending.old bits.old) (right_buffers (M.Map.exponent self.old.map) (M.Map.marks self.old.map) (length message.old) (length word.old))) (take (2 ^ M.Map.exponent self.old.map) bits.old) word.old }
-        ensures message { message.new ≡ in_force (take_door self.old.state (roomy (M.Map.exponent self.old.map) soft.old pending.old bits.old) (right_buffers (M.Map.exponent self.old.map) (M.Map.marks self.old.map) (length message.old) (length word.old))) (message_in (M.Map.exponent self.old.map) (M.Map.marks self.old.map) (take (2 ^ M.Map.exponent self.old.map) bits.old)) message.old }
-        ensures state { self.new.state ≡ in_force (take_door self.old.state (roomy (M.Map.exponent self.old.map) soft.old pending.old bits.old) (right_buffers (M.Map.exponent self.old.map) (M.Map.marks self.old.map) (length message.old) (length word.old))) State.Idle self.old.state }
+        ensures answer { result ≡ replied (take_asked self.old.state (M.Map.exponent self.old.map) (M.Map.marks self.old.map) memory.old (length message.old) (length word.old)) (steps_kept self.old.state) }
+        ensures word { word.new ≡ in_force (take_asked self.old.state (M.Map.exponent self.old.map) (M.Map.marks self.old.map) memory.old (length message.old) (length word.old)) (take (2 ^ M.Map.exponent self.old.map) memory.old.bits.now) word.old }
+        ensures message { message.new ≡ in_force (take_asked self.old.state (M.Map.exponent self.old.map) (M.Map.marks self.old.map) memory.old (length message.old) (length word.old)) (message_in (M.Map.exponent self.old.map) (M.Map.marks self.old.map) (take (2 ^ M.Map.exponent self.old.map) memory.old.bits.now)) message.old }
+        ensures state { self.new.state ≡ in_force (take_asked self.old.state (M.Map.exponent self.old.map) (M.Map.marks self.old.map) memory.old (length message.old) (length word.old)) State.Idle self.old.state }
         ensures rest { (self.new.map ≡ self.old.map) × (self.new.caps ≡ self.old.caps) }
-        ensures kept { (soft.new ≡ soft.old) × (pending.new ≡ pending.old) × (bits.new ≡ bits.old) }
-        ensures law { Continues S.Soft.kind (Call.take (roomy (M.Map.exponent self.old.map) soft.old pending.old bits.old) (length message.old) (length word.old)) (taken_as result message.new word.new) (M.Map.exponent self.old.map) (M.Map.marks self.old.map) self.old.caps self.old.state soft.old pending.old bits.old (M.Map.exponent self.new.map) (M.Map.marks self.new.map) self.new.caps self.new.state soft.new pending.new bits.new }
-        ensures stays { Stays S.Soft.kind (Call.take (roomy (M.Map.exponent self.old.map) soft.old pending.old bits.old) (length message.old) (length word.old)) (taken_as result message.new word.new) (M.Map.exponent self.old.map) (M.Map.marks self.old.map) self.old.caps self.old.state (M.Map.exponent self.new.map) (M.Map.marks self.new.map) self.new.caps self.new.state }
+        ensures lent { SameLoans memory.old memory.new }
+        ensures kept { (memory.new.soft.now ≡ memory.old.soft.now) × (memory.new.pending.now ≡ memory.old.pending.now) × (memory.new.bits.now ≡ memory.old.bits.now) }
+        ensures law { Continues S.Soft.kind (Call.take (roomy (M.Map.exponent self.old.map) memory.old.soft.now memory.old.pending.now memory.old.bits.now) (length message.old) (length word.old)) (taken_as result message.new word.new) (M.Map.exponent self.old.map) (M.Map.marks self.old.map) self.old.caps self.old.state memory.old.soft.now memory.old.pending.now memory.old.bits.now (M.Map.exponent self.new.map) (M.Map.marks self.new.map) self.new.caps self.new.state memory.new.soft.now memory.new.pending.now memory.new.bits.now }
+        ensures stays { Stays S.Soft.kind (Call.take (roomy (M.Map.exponent self.old.map) memory.old.soft.now memory.old.pending.now memory.old.bits.now) (length message.old) (length word.old)) (taken_as result message.new word.new) (M.Map.exponent self.old.map) (M.Map.marks self.old.map) self.old.caps self.old.state (M.Map.exponent self.new.map) (M.Map.marks self.new.map) self.new.caps self.new.state }
         ensures anew { Anew S.Soft.kind (M.Map.exponent self.new.map) (M.Map.marks self.new.map) self.new.caps self.new.state }
     {
         // that the map means a list of marks
         let _n = self.map.n();
-        self.hand_over(soft, pending, bits, message, word)
+        self.hand_over(memory, message, word)
     }
 
     // Ends the word in hand without result.

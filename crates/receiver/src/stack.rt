@@ -1,5 +1,5 @@
 // A stack in memory that somebody else lends, written once for every element.
-ghost use Rattle.std.specs.Prelude.{◌≡◌, ◌+◌, ◌-◌, ◌≤◌, length, if◌then◌else◌, nat_lt, slice_set};
+ghost use Rattle.std.specs.Prelude.{◌≡◌, ◌+◌, ◌-◌, ◌≤◌, length, is_ok, if◌then◌else◌, nat_lt, slice_set};
 ghost use Rattle.receiver.specs.Stacks.{top_of};
 
 // The first `len` slots are on the stack, the last of them at its top.
@@ -17,20 +17,20 @@ impl<'a, E: Copy> Stack<'a, E> {
         self.len
     }
 
-    // One element more, or false where there is no room.
-    pub fn push(&mut self, x: E) -> bool
-        ensures answer { result ≡ nat_lt self.old.len (length self.old.slots.now) }
-        ensures slots { self.new.slots.now ≡ (if result then slice_set self.old.slots.now self.old.len x else self.old.slots.now) }
-        ensures len { self.new.len ≡ (if result then self.old.len + 1 else self.old.len) }
+    // One element more, or the element back where there is no room.
+    pub fn push(&mut self, x: E) -> Result<(), E>
+        ensures answer { result ≡ (if nat_lt self.old.len (length self.old.slots.now) then Ok tt else Err x) }
+        ensures slots { self.new.slots.now ≡ (if is_ok result then slice_set self.old.slots.now self.old.len x else self.old.slots.now) }
+        ensures len { self.new.len ≡ (if is_ok result then self.old.len + 1 else self.old.len) }
         ensures same { self.new.slots.ghost_name ≡ self.old.slots.ghost_name }
     {
         let len = self.len;
         if len >= self.slots.len() {
-            return false;
+            return Err(x);
         }
         self.slots[len] = x;
         self.len = len + 1;
-        true
+        Ok(())
     }
 
     // Takes the top off.

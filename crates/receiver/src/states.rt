@@ -29,12 +29,10 @@ pub(crate) fn admit(state: State, asked: Asked) -> Result<(), ReceiverFault>
     ensures { result ≡ replied (admitted state asked) tt }
 {
     match (state, asked) {
-        (State::Idle, Asked::Remap) => Ok(()),
-        (State::Idle, Asked::Word) => Ok(()),
+        (State::Idle, Asked::Remap | Asked::Word) => Ok(()),
         (State::Idle, _) => Err(ReceiverFault::NoWord),
-        (_, Asked::Remap) => Err(ReceiverFault::WordInHand),
-        (_, Asked::Word) => Err(ReceiverFault::WordInHand),
+        (_, Asked::Remap | Asked::Word) => Err(ReceiverFault::WordInHand),
         (State::Working(_, _), Asked::Take) => Err(ReceiverFault::Unfinished),
-        (_, _) => Ok(()),
+        _ => Ok(()),
     }
 }

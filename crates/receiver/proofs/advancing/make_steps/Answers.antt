@@ -5,15 +5,15 @@ use Rattle.receiver.proofs.advancing.make_steps.Goals as goal
 
 pub loop-made-init : goal.loop-made-init
 loop-made-init g c =
-    (λ root place is these was. walked_start g.S.Soft.kind _ root (caps_of c.args.caps) place _ _ _ _ was, c.requires.few, omega arith, refl)
+    (λ root place is these was. walked_start g.S.Soft.kind _ root (caps_of c.args.caps) place _ _ _ _ was, c.requires.few, omega arith, refl, search rules)
 
 pub make_step-height-requires : goal.make_step-height-requires
 make_step-height-requires g c =
     record {
       room = record {
-        soft_room = omega (arith, c.requires.room.soft_room, c.loop-made.auto.soft);
-        step_room = omega (arith, c.requires.room.step_room, c.loop-made.auto.pending);
-        bit_room = omega (arith, c.requires.room.bit_room, c.loop-made.auto.bits);
+        soft_room = omega (arith, c.requires.room.soft_room, c.loop-made.invariant.4.soft_long);
+        step_room = omega (arith, c.requires.room.step_room, c.loop-made.invariant.4.pending_long);
+        bit_room = omega (arith, c.requires.room.bit_room, c.loop-made.invariant.4.bits_long);
       };
       some = search rules;
       few = c.loop-made.invariant.1;
@@ -27,6 +27,7 @@ loop-made-preserved g c = (
   c.make_step-height.ensures.inside.few,
   search rules,
   c.make_step-height.ensures.inside.beyond ∙ c.loop-made.invariant.3,
+  search rules,
 )
 
 pub returns-else-height-gt0 : goal.returns-else-height-gt0
@@ -36,6 +37,7 @@ returns-else-height-gt0 g c =
           walked_out g.S.Soft.kind _ root (caps_of c.args.caps) place c.args.allowance c.loop-made.made c.loop-made.height _ _ _ c.loop-made.invariant.2 (search rules) (c.loop-made.invariant.0 root place is these was);
       inside = record { few = c.loop-made.invariant.1; beyond = c.loop-made.invariant.3 };
       most = c.loop-made.invariant.2;
+      lent = c.loop-made.invariant.4;
     }
 
 pub returns-after-loop-made : goal.returns-after-loop-made
@@ -45,4 +47,5 @@ returns-after-loop-made g c =
           walked_all g.S.Soft.kind _ root (caps_of c.args.caps) place c.args.allowance c.loop-made.made c.loop-made.height _ _ _ (search rules) (c.loop-made.invariant.0 root place is these was);
       inside = record { few = c.loop-made.invariant.1; beyond = c.loop-made.invariant.3 };
       most = c.loop-made.invariant.2;
+      lent = c.loop-made.invariant.4;
     }

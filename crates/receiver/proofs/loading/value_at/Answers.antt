@@ -1,9 +1,14 @@
-use Rattle.std.proofs.Common.{sym, ◌∙◌}
-use Rattle.receiver.proofs.Loads.{value_read, value_past}
+use Rattle.std.proofs.Common.{rules, ◌<◌, ◌≤◌, length}
+use Rattle.receiver.proofs.Loads.{value_found, value_past}
 use Rattle.receiver.proofs.loading.value_at.Goals as goal
 
-pub returns-then-i-bytes : goal.returns-then-i-bytes
-returns-then-i-bytes g c = c.value_of.ensures ∙ sym (value_read g.S.Soft.kind c.args.bytes.now c.args.i c.if-i-bytes.true)
+pub returns-in-Some : goal.returns-in-Some
+returns-in-Some g c =
+    let within : c.args.i < length c.args.bytes.now = search rules in
+    let e = value_found g.S.Soft.kind c.args.bytes.now c.args.i c.in-Some.byte.now within (search rules) in
+    cc
 
-pub returns-else-i-bytes : goal.returns-else-i-bytes
-returns-else-i-bytes g c = c.fill.ensures ∙ sym (value_past g.S.Soft.kind c.args.bytes.now c.args.i c.if-i-bytes.false)
+pub returns-in-None : goal.returns-in-None
+returns-in-None g c =
+    let past : length c.args.bytes.now ≤ c.args.i = search rules in
+    let e = value_past g.S.Soft.kind c.args.bytes.now c.args.i past in cc

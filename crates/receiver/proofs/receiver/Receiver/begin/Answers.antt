@@ -1,4 +1,4 @@
-use Rattle.std.proofs.Common.{◌≡◌, ◌^◌, [], ◌∷◌, take, None, sym, refl, ap, ◌∙◌, arith, rules}
+use Rattle.std.proofs.Common.{◌≡◌, [], ◌∷◌, take, None, sym, refl, ap, ◌∙◌, arith, rules}
 use Rattle.std.proofs.lemmas.List.{take_more_set}
 use Rattle.receiver.specs.declared.memory.Next.TheVariants as next
 use Rattle.receiver.specs.Agreement.{roomy}
@@ -11,21 +11,22 @@ pub returns : goal.returns
 returns g c =
     let kind = g.S.Soft.kind in
     let n = g.M.Map.exponent c.args.self.now.map in
-    let soft = c.args.soft.now in
-    let steps = c.args.pending.now in
-    let bits = c.args.bits.now in
+    let soft = c.args.memory.now.soft.now in
+    let steps = c.args.memory.now.pending.now in
+    let bits = c.args.memory.now.bits.now in
     let door : word_door kind c.args.self.now.state c.args.fits (roomy n soft steps bits) c.args.bytes.now ≡ None = search rules in
     let room = room_found n soft steps bits (sym c.if-not-has_room.ensures) in
     let fits = c.requires (true_holds c.args.fits c.if-not-fits.false) in
-    let size : c.length_of-size.result ≡ 2 ^ n = c.length_of-size.ensures ∙ ap (λ k. 2 ^ k) c.n-n.ensures.value in
+    let size = c.position_count-size.ensures.value in
     record {
       taken = record {
         answered = search rules;
         working = search rules;
         bits = search rules;
         values = λ e. loaded kind n c.args.bytes.now c.load.new.soft fits (omega (arith, room.soft_room, c.load.auto.soft)) (λ i d h. c.load.ensures i d (omega (arith, size)));
-        first = λ e. ap (take 1) c.push_on.ensures ∙ take_more_set steps 0 _ (omega (arith, room.step_room)) ∙ ap (λ k. record { next = next.First; start = 0; e = k } ∷ []) c.n-n.ensures.value;
+        first = λ e. ap (take 1) c.put_alone.ensures ∙ take_more_set steps 0 _ (omega (arith, room.step_room)) ∙ ap (λ k. record { next = next.First; start = 0; e = k } ∷ []) c.n.ensures.value;
         kept = search rules;
       };
       rest = (refl, refl);
+      lent = search rules;
     }

@@ -5,9 +5,8 @@ use Rattle.code.specs.Faults as code
 use Rattle.code.specs.Transform.{transform}
 use Rattle.code.proofs.Encodings.{both_right}
 use Rattle.receiver.specs.Admissions.{in_force}
-use Rattle.receiver.specs.Agreement.{roomy}
-use Rattle.receiver.specs.Model.{right_buffers, message_in}
-use Rattle.receiver.specs.Words.{take_door}
+use Rattle.receiver.specs.Model.{message_in}
+use Rattle.receiver.specs.Words.{take_asked}
 use Rattle.receiver.proofs.receiver.Receiver.hand_over.Goals as goal
 
 pub returns : goal.returns
@@ -15,17 +14,17 @@ returns g c =
     let map = c.args.self.now.map in
     let n = g.M.Map.exponent map in
     let marks = g.M.Map.marks map in
-    let soft = c.args.soft.now in
-    let steps = c.args.pending.now in
-    let bits = c.args.bits.now in
+    let soft = c.args.memory.now.soft.now in
+    let steps = c.args.memory.now.pending.now in
+    let bits = c.args.memory.now.bits.now in
     let message = c.args.message.now in
     let word = c.args.word.now in
     let state = c.args.self.now.state in
-    let door : take_door state (roomy n soft steps bits) (right_buffers n marks (length message) (length word)) ≡ None = search rules in
+    let door : take_asked state n marks c.args.memory.now (length message) (length word) ≡ None = search rules in
     let right = and_parts (eqb (length message) (informed_count marks)) (eqb (length word) (2 ^ n)) (sym c.if-not-right_buffers.ensures) in
-    let size : c.length_of-size.result ≡ 2 ^ n = c.length_of-size.ensures ∙ ap (λ k. 2 ^ k) c.n.ensures.value in
-    let copied : c.copy_front.new.word ≡ take (2 ^ n) bits = c.copy_front.ensures.word ∙ ap (λ k. take k bits) size in
-    let long : length c.copy_front.new.word ≡ length marks = c.copy_front.auto.word ∙ eqb-true (length word) (2 ^ n) right.1 ∙ sym (ap (λ k. 2 ^ k) c.n.ensures.value) ∙ sym c.n.ensures.means.long in
+    let size = c.position_count-size.ensures in
+    let copied : c.copy_front.new.word ≡ take (2 ^ n) bits = c.copy_front.ensures ∙ ap (λ k. take k bits) size.value in
+    let long : length c.copy_front.new.word ≡ length marks = c.copy_front.auto.word ∙ eqb-true (length word) (2 ^ n) right.1 ∙ sym size.value ∙ size.marks in
     let fault : message_fault marks (length c.copy_front.new.word) (length message) ≡ None = both_right marks _ _ (eqb-true (length message) (informed_count marks) right.0) long in
     let read : c.message_of.new.message ≡ message_in n marks (take (2 ^ n) bits) =
     c.message_of.ensures.message ∙ ap (λ o. code.in_force o (informed marks (transform n c.copy_front.new.word)) message) fault ∙ ap (λ w. informed marks (transform n w)) copied in
@@ -35,5 +34,6 @@ returns g c =
       message = read ∙ sym (ap (λ o. in_force o (message_in n marks (take (2 ^ n) bits)) message) door);
       state = search rules;
       rest = (refl, refl);
-      kept = (refl, refl, c.copy_front.ensures.bits);
+      lent = search rules;
+      kept = (refl, refl, refl);
     }

@@ -14,10 +14,11 @@ returns g c =
       message = inner.message;
       state = inner.state;
       rest = inner.rest;
+      lent = inner.lent;
       kept = inner.kept;
       law = continues g.S.Soft.kind g.S.Soft.laws _ _ _ _ _ _ _ _ _ _ _ _ _ _ _ _ tt
           (λ m agrees.
-          let done = agrees_take_call g.S.Soft.kind m _ _ was.caps was.state c.hand_over.new.self.state c.args.soft.now c.args.pending.now c.args.bits.now c.args.message.now c.args.word.now c.hand_over.new.message c.hand_over.new.word c.hand_over.result
+          let done = agrees_take_call g.S.Soft.kind m _ _ was.caps was.state c.hand_over.new.self.state c.args.memory.now.soft.now c.args.memory.now.pending.now c.args.memory.now.bits.now c.args.message.now c.args.word.now c.hand_over.new.message c.hand_over.new.word c.hand_over.result
           agrees inner.answer inner.word inner.message inner.state in
           (done.0, same_receiver g.S.Soft.kind g.M.Map.exponent g.M.Map.marks was.map _ _ _ _ _ _ _ _ _ _ _ _ inner.rest.0 inner.rest.1 refl inner.kept.0 inner.kept.1 inner.kept.2 done.1));
       stays = take_stays g.S.Soft.kind g.S.Soft.laws g.M.Map.exponent g.M.Map.marks was.map _ _ _ _ _ _ _ _ _ _ _ inner.rest inner.answer inner.state;

@@ -1,4 +1,4 @@
-use Rattle.std.proofs.Common.{◌≡◌, ◌^◌, eqb, length, refl, ap, ◌∙◌, subst}
+use Rattle.std.proofs.Common.{eqb, length, refl, ap, subst}
 use Rattle.code.specs.Spans.{Means}
 use Rattle.receiver.specs.Calls.{word}
 use Rattle.receiver.specs.Model.{full_length}
@@ -11,8 +11,7 @@ returns g c =
     let map = c.args.self.now.map in
     let n = g.M.Map.exponent map in
     let bytes = c.args.bytes.now in
-    let means : Means n (g.M.Map.marks map) = subst (λ k. Means k (g.M.Map.marks map)) c.n.ensures.value c.n.ensures.means in
-    let size : c.length_of-size.result ≡ 2 ^ n = c.length_of-size.ensures ∙ ap (λ k. 2 ^ k) c.n.ensures.value in
+    let means : Means n (g.M.Map.marks map) = subst (λ k. Means k (g.M.Map.marks map)) c.n-n.ensures.value c.n-n.ensures.means in
     let all = word_continues g.S.Soft.kind g.S.Soft.laws g.M.Map.exponent g.M.Map.marks map _ _ _ full_length word _ bytes _ _ _ _ _ _ _ _ _ (λ room m. refl) (λ room. tt)
-    means (full_fits n (length bytes)) (ap (eqb (length bytes)) size) c.begin.ensures.rest c.begin.ensures.taken in
-    record { taken = all.0; rest = c.begin.ensures.rest; law = all.1; stays = all.2 }
+    means (full_fits n (length bytes)) (ap (eqb (length bytes)) c.position_count.ensures.value) c.begin.ensures.rest c.begin.ensures.taken in
+    record { taken = all.0; rest = c.begin.ensures.rest; lent = c.begin.ensures.lent; law = all.1; stays = all.2 }
