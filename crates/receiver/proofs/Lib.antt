@@ -1,5 +1,6 @@
 pub mod CheapSpans
 pub mod Counts
+pub mod Halves
 pub mod Leads
 pub mod Loads
 pub mod Made

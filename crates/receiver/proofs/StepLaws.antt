@@ -6,15 +6,12 @@ use Rattle.code.specs.Spans.{part}
 use Rattle.receiver.specs.declared.memory.Step.{Step}
 use Rattle.receiver.specs.Stacks.{overwritten}
 use Rattle.receiver.specs.Coherence.{Splits, pending_of, around, Open, Coherent}
+use Rattle.receiver.specs.Steps.{base}
 use Rattle.receiver.specs.Work.{Span, Root, Side, left, right, Next, first, second, final}
 use Rattle.receiver.specs.Work.{half, word_of, left_of, right_of, span_at, rows, before, after, within, done}
 use Rattle.receiver.proofs.Places.{split_pow, full_left, full_right, length_word, done_bits}
 use Rattle.receiver.proofs.Paths.{path_e, path_full, path_some, path_start, rows_length, before_length}
 use Rattle.receiver.proofs.Overwrites.{take_front, known_overwritten, take_extended, part_known}
-
--- where the row of an open span of 2 ^ e begins in soft memory
-abbrev pub base : ℕ → ℕ → ℕ
-base n e = 2 * 2 ^ n - 2 * 2 ^ e
 
 module _ {S : Type 0} (kind : Kind S) (n : ℕ) (root : Span S) (is : Root n root) where
   pub around_length : (path : List Side) → length (around kind root path) ≡ length path

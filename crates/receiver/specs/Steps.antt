@@ -1,11 +1,11 @@
 -- What one step does to the work memory: cited by the functions that make steps. Assumes nothing.
-use Rattle.std.specs.Prelude.{◌≡◌, ℕ, ◌+◌, ◌-◌, ◌*◌, ◌^◌, ◌<◌, ◌≤◌, cond, ◌||◌, List, length, drop, set, Some, None, Option, ◌==◌, ◌≢◌}
+use Rattle.std.specs.Prelude.{◌≡◌, ℕ, ◌+◌, ◌-◌, ◌*◌, ◌^◌, ◌≤◌, cond, ◌||◌, List, length, drop, set, Some, None, Option, ◌==◌}
 use Rattle.code.specs.declared.kinds.SpanKind.{SpanKind}
 use Rattle.soft.specs.Kind.{Kind}
 use Rattle.code.specs.Spans.{part}
+use Rattle.code.specs.Transform.{join_halves}
 use Rattle.cancellation.specs.Rows.{check_row, join_row}
 use Rattle.receiver.specs.declared.memory.Step.{Step}
-use Rattle.receiver.specs.declared.memory.Next.TheVariants as next
 use Rattle.receiver.specs.Stacks.{overwritten}
 use Rattle.receiver.specs.Work.{Caps, allowed_kind, Span, Root, Side, Next, Place, at, span_at, stepped, walked, made_of}
 use Rattle.receiver.specs.Coherence.{pending_of, Open, Coherent}
@@ -32,21 +32,25 @@ abbrev pub settled_by : Caps → ℕ → Option SpanKind → Option SpanKind
 settled_by caps e None = None
 settled_by caps e (Some k) = cond (e == 0 || allowed_kind caps e k) (Some k) None
 
--- the left step of a span of 2 ^ e positions whose row begins at `base`, unless it is a single position or too many steps are pending
-abbrev pub LeftMade : {S : Type 0} → Kind S → ℕ → Step → ℕ → List S → List Step → ℕ → List S → List Step → Type 0
-LeftMade kind base step height soft steps height' soft' steps' =
-    (step.e ≢ 0) → height < 64 →
-    (height' ≡ height + 1)
-    × (soft' ≡ overwritten soft (base + 2 * 2 ^ (step.e - 1)) (check_row kind (part soft base (2 ^ (step.e - 1))) (part soft (base + 2 ^ (step.e - 1)) (2 ^ (step.e - 1)))))
-    × (steps' ≡ set (set steps (height - 1) (record { next = next.Second; start = step.start; e = step.e })) height (record { next = next.First; start = step.start; e = step.e - 1 }))
+-- where the row of an open span of 2 ^ e positions begins in soft memory
+abbrev pub base : ℕ → ℕ → ℕ
+base n e = 2 * 2 ^ n - 2 * 2 ^ e
 
--- the right step of a span of 2 ^ e positions whose row begins at `base`, unless it is a single position or too many steps are pending
-abbrev pub RightMade : {S : Type 0} → Kind S → ℕ → Step → ℕ → List S → List Step → List ℕ → ℕ → List S → List Step → Type 0
-RightMade kind base step height soft steps row height' soft' steps' =
-    (step.e ≢ 0) → height < 64 →
-    (height' ≡ height + 1)
-    × (soft' ≡ overwritten soft (base + 2 * 2 ^ (step.e - 1)) (join_row kind (part soft base (2 ^ (step.e - 1))) (part soft (base + 2 ^ (step.e - 1)) (2 ^ (step.e - 1))) (part row step.start (2 ^ (step.e - 1)))))
-    × (steps' ≡ set (set steps (height - 1) (record { next = next.Final; start = step.start; e = step.e })) height (record { next = next.First; start = step.start + 2 ^ (step.e - 1); e = step.e - 1 }))
+-- soft memory with the row of a left half after that of its span, which begins at `b`
+abbrev pub with_left : {S : Type 0} → Kind S → ℕ → ℕ → List S → List S
+with_left kind b half soft = overwritten soft (b + 2 * half) (check_row kind (part soft b half) (part soft (b + half) half))
+
+-- soft memory with the row of a right half after that of its span, which begins at `b`; the bits of the left half begin at `start`
+abbrev pub with_right : {S : Type 0} → Kind S → ℕ → ℕ → List S → List ℕ → ℕ → List S
+with_right kind b half soft row start = overwritten soft (b + 2 * half) (join_row kind (part soft b half) (part soft (b + half) half) (part row start half))
+
+-- the bits with those of a span from those of its halves
+abbrev pub with_word : ℕ → List ℕ → ℕ → List ℕ
+with_word half row start = overwritten row start (join_halves (part row start half) (part row (start + half) half))
+
+-- the pending steps with a later step of a span in the place of its own, of which `below` are below, and one of a half above it
+abbrev pub with_half : List Step → ℕ → Step → Step → List Step
+with_half steps below later half = set (set steps below later) (below + 1) half
 
 -- if the memory says where the work on a word stands, and a step remains, then afterwards it says where the work stands one step later
 abbrev pub Moves : {S : Type 0} → Kind S → ℕ → List ℕ → Caps → ℕ → List S → List Step → List ℕ → ℕ → List S → List Step → List ℕ → Type 0

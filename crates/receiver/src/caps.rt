@@ -1,6 +1,7 @@
 // Caps: up to which length spans are settled.
 ghost use Rattle.std.specs.Prelude.{◌≡◌};
 ghost use Rattle.receiver.specs.Capping.{caps_of};
+ghost use Rattle.receiver.specs.Steps.{settled_by};
 ghost use Rattle.receiver.specs.Work.{allowed_kind};
 
 use code::kinds::SpanKind;
@@ -21,5 +22,12 @@ impl Caps {
             SpanKind::Rate0 | SpanKind::Rep => e <= self.first,
             SpanKind::Rate1 | SpanKind::Spc => e <= self.second,
         }
+    }
+
+    // The kind by which a span of 2 ^ e positions is settled, or none: then it is split. A single position always is settled.
+    pub(crate) fn settled_by(self, e: u8, kind: Option<SpanKind>) -> Option<SpanKind>
+        ensures { result ≡ settled_by (caps_of self) e kind }
+    {
+        kind.filter(|k| e == 0 || self.allows(e, *k))
     }
 }

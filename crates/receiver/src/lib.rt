@@ -8,6 +8,7 @@ pub mod caps;
 pub mod faults;
 mod loading;
 pub mod memory;
+mod open_span;
 mod pending;
 pub mod receiver;
 pub mod receiving;

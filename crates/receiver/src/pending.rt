@@ -1,5 +1,5 @@
 // The pending steps, a stack in the work memory.
-ghost use Rattle.std.specs.Prelude.{◌≡◌, ◌+◌, ◌-◌, ◌<◌, ◌≤◌, length, slice_set};
+ghost use Rattle.std.specs.Prelude.{◌≡◌, ◌+◌, ◌<◌, length, slice_set};
 ghost use Rattle.receiver.specs.Stacks.{top_of};
 
 use crate::memory::Step;
@@ -17,16 +17,15 @@ pub(crate) fn top_step(pending: &mut [Step], height: usize) -> Option<Step>
     stack.pop()
 }
 
-// In the place of the top, a later step of its span and above it a step of one of its halves.
-pub(crate) fn push_half(pending: &mut [Step], height: usize, later: Step, half: Step) -> usize
-    requires some { 1 ≤ height }
-    requires room { height < length pending.old }
-    ensures height { result ≡ height + 1 }
-    ensures pending { pending.new ≡ slice_set (slice_set pending.old (height - 1) later) height half }
+// Above `below` steps a later step of some span, and above it a step of one of its halves.
+pub(crate) fn push_half(pending: &mut [Step], below: usize, later: Step, half: Step) -> usize
+    requires { below + 1 < length pending.old }
+    ensures height { result ≡ below + 2 }
+    ensures pending { pending.new ≡ slice_set (slice_set pending.old below later) (below + 1) half }
 {
     let mut stack = Stack {
         slots: pending,
-        len: height - 1,
+        len: below,
     };
     let _ = stack.push(later);
     let _ = stack.push(half);

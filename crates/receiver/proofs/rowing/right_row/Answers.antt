@@ -1,33 +1,23 @@
-use Rattle.std.proofs.Common.{◌≡◌, ◌+◌, ◌-◌, ◌*◌, ◌++◌, length, take, drop, sym, refl, ap, ◌∙◌, ap₂, arith}
+use Rattle.std.proofs.Common.{◌≡◌, ◌+◌, ◌-◌, ◌*◌, length, take, drop, ap, ◌∙◌, arith}
 use Rattle.code.specs.Spans.{part}
-use Rattle.receiver.proofs.PartWrites.{part_first, part_second, length_part, end_written}
 use Rattle.cancellation.specs.Rows.{join_row}
-use Rattle.cancellation.proofs.Combined.{length-join_row}
+use Rattle.receiver.specs.Stacks.{overwritten}
+use Rattle.receiver.proofs.PartWrites.{length_part}
+use Rattle.receiver.proofs.Halves.{three_halves, right_written}
 use Rattle.receiver.proofs.rowing.right_row.Goals as goal
 
-pub returns : goal.returns
-returns g c =
+pub returns-clause-soft : goal.returns-clause-soft
+returns-clause-soft g c =
     let kind = g.S.Soft.kind in
     let soft = c.args.soft.now in
     let bits = c.args.bits.now in
-    let base = c.args.base in
-    let half = c.args.half in
     let start = c.args.start in
-    let k = base + 3 * half - base in
+    let b = c.args.base in
+    let half = c.args.half in
+    let k = b + 3 * half - b in
+    let is : k ≡ 3 * half = omega arith in
     let t : start + half - start ≡ half = omega arith in
-    let long : length (take k (drop base soft)) ≡ 3 * half = length_part soft base k (omega (arith, c.requires.row)) ∙ (let h : k ≡ 3 * half = omega arith in h) in
     let left_long : length (take (start + half - start) (drop start bits)) ≡ half = ap (λ j. length (part bits start j)) t ∙ length_part bits start half c.requires.word in
-    let made = (c.join_row.ensures.done half (long, left_long)).1 in
-    let left = part bits start half in
-    let row = join_row kind (part soft base half) (part soft (base + half) half) left in
-    let a = length_part soft base half (omega (arith, c.requires.row)) in
-    let b = length_part soft (base + half) half (omega (arith, c.requires.row)) in
-    let l = length_part bits start half c.requires.word in
-    let lr : length row ≡ half = length-join_row kind (part soft base half) (part soft (base + half) half) left (a ∙ sym b) (a ∙ sym l) ∙ a in
-    record {
-      soft = end_written soft row _ base (2 * half) k
-          (made ∙ ap₂ (λ x y. take (2 * half) (take k (drop base soft)) ++ join_row kind x y (take (start + half - start) (drop start bits))) (part_first soft base half k (omega arith)) (part_second soft base half half k (omega arith))
-          ∙ ap (λ j. take (2 * half) (take k (drop base soft)) ++ join_row kind (part soft base half) (part soft (base + half) half) (part bits start j)) t)
-          (omega arith) (omega (arith, c.requires.row));
-      bits = refl;
-    }
+    right_written kind soft c.join_row.new.rows (take (start + half - start) (drop start bits)) b half k is c.requires.row left_long
+    (c.join_row.ensures.done half (three_halves kind soft b half k is c.requires.row, left_long)).1
+    ∙ ap (λ j. overwritten soft (b + 2 * half) (join_row kind (part soft b half) (part soft (b + half) half) (part bits start j))) t
