@@ -31,7 +31,7 @@ impl From<ReceiverFault> for Report {
 
     fn from(fault: ReceiverFault) -> Report {
         let (number, place) = match fault {
-            ReceiverFault::Map(fault) => return fault.report(),
+            ReceiverFault::Map(fault) => return Report::from(fault),
             ReceiverFault::Length => (8, 0),
             ReceiverFault::Memory => (9, 0),
             ReceiverFault::WordInHand => (10, 0),

@@ -1,13 +1,16 @@
-use Rattle.std.proofs.Common.{◌≡◌, ◌^◌, eqb, length, take, None, sym, refl, ap, ◌∙◌, rules}
-use Rattle.std.proofs.lemmas.Bool.{and_parts, eqb-true}
+use Rattle.std.proofs.Common.{◌≡◌, ℕ, List, ◌^◌, eqb, length, take, None, sym, refl, ap, ◌∙◌, rules}
+use Rattle.std.proofs.lemmas.Bool.{and_parts, eqb-true, eq-eqb}
 use Rattle.code.specs.Encode.{informed, informed_count, message_fault}
 use Rattle.code.specs.Faults as code
 use Rattle.code.specs.Transform.{transform}
-use Rattle.code.proofs.Encodings.{both_right}
 use Rattle.receiver.specs.Admissions.{in_force}
 use Rattle.receiver.specs.Model.{message_in}
 use Rattle.receiver.specs.Words.{take_asked}
 use Rattle.receiver.proofs.receiver.Receiver.hand_over.Goals as goal
+
+both_right : (marks : List ℕ) (word message : ℕ) → message ≡ informed_count marks → word ≡ length marks → message_fault marks word message ≡ None
+unfolding message_fault
+both_right marks word message fits large = rw (eq-eqb message (informed_count marks) fits, eq-eqb word (length marks) large)
 
 pub returns : goal.returns
 returns g c =
