@@ -1,31 +1,18 @@
 // Reading the commands of a session.
 ghost use Rattle.std.specs.Prelude.{◌≡◌, ◌^◌, ◌<◌, ◌≤◌, [], ◌∷◌, ◌++◌, length, take, drop, if◌then◌else◌, Ok, Err, MatchResult};
-ghost use Rattle.code.specs.declared.faults.MapFault.TheVariants.{Exponent};
-ghost use Rattle.code.specs.Spans.{good_exponent};
 ghost use Rattle.session.specs.declared.faults.SessionFault.TheVariants.{Cut};
 ghost use Rattle.session.specs.Commands.{read_command};
 ghost use Rattle.session.specs.Readings.{reading_of};
 
 use crate::commands::{Command, Make, Sizes};
 use crate::faults::SessionFault;
-use code::faults::MapFault;
+use code::sizes::positions;
 
 // A command and the session after it.
 #[derive(Clone, Copy)]
 pub(crate) struct Reading<'a> {
     pub(crate) command: Command<'a>,
     pub(crate) rest: &'a [u8],
-}
-
-// The count of positions, if n is from 1 to 10.
-pub(crate) fn positions(n: u8) -> Result<usize, MapFault>
-    ensures { result ≡ (if good_exponent n then Ok (2 ^ n) else Err Exponent) }
-{
-    if (1..=10).contains(&n) {
-        Ok(1usize << n)
-    } else {
-        Err(MapFault::Exponent)
-    }
 }
 
 // The first `count` bytes, and those after them.

@@ -3,7 +3,7 @@ ghost use Rattle.std.specs.Prelude.{◌≡◌, ◌+◌, ◌≤◌, length, drop}
 ghost use Rattle.code.specs.Spans.{part};
 ghost use Rattle.session.specs.Shelf.{record_from, slot_record, held_by};
 
-use crate::reading::positions;
+use code::sizes::positions;
 
 // What holds an order's ranks.
 #[derive(Clone, Copy)]

@@ -52,9 +52,7 @@ impl<'a, S: Soft + Copy> State<'a, S> {
     fn put_order(&mut self, n: u8, bytes: &'a [u8]) -> Result<Answer<'static>, SessionFault>
         ensures { Does S.Soft.kind (do_order n bytes.now) result self.old self.new }
     {
-        let mut order = Order::smallest();
-        order.read(n, bytes)?;
-        self.order = Some(order);
+        self.order = Some(Order::read(n, bytes)?);
         Ok(Answer::Number(usize::from(n)))
     }
 
@@ -88,18 +86,14 @@ impl<'a, S: Soft + Copy> State<'a, S> {
         ensures { Does S.Soft.kind (do_ranked S.Soft.kind at k) result self.old self.new }
     {
         let order = self.order.ok_or(SessionFault::NoOrder(at))?;
-        let mut map = Ranked::new(Order::smallest());
-        map.choose(order, k)?;
-        self.put_map(Chosen::Ranked(map))
+        self.put_map(Chosen::Ranked(Ranked::choose(order, k)?))
     }
 
     // `L`
     fn put_listed(&mut self, n: u8, marks: &'a [u8]) -> Result<Answer<'static>, SessionFault>
         ensures { Does S.Soft.kind (do_listed S.Soft.kind n marks.now) result self.old self.new }
     {
-        let mut map = Listed::smallest();
-        map.read(n, marks)?;
-        self.put_map(Chosen::Listed(map))
+        self.put_map(Chosen::Listed(Listed::read(n, marks)?))
     }
 
     // `B`
