@@ -6,7 +6,7 @@ ghost use Rattle.session.specs.Commands.{number_of, make_of, header_of};
 use crate::faults::SessionFault;
 
 // The kind of soft number that a session decodes with.
-#[derive(Clone, Copy)]
+#[derive(Clone, Copy, Debug, PartialEq, Eq)]
 pub enum Number {
     Whole,
     Erasure,
@@ -27,7 +27,7 @@ impl TryFrom<u8> for Number {
 }
 
 // The make of map that a session chooses among.
-#[derive(Clone, Copy)]
+#[derive(Clone, Copy, Debug, PartialEq, Eq)]
 pub enum Make {
     Ranked,
     Listed,
@@ -48,7 +48,7 @@ impl TryFrom<u8> for Make {
 }
 
 // The first two bytes of a session.
-#[derive(Clone, Copy)]
+#[derive(Clone, Copy, Debug, PartialEq, Eq)]
 pub struct Header {
     pub number: Number,
     pub make: Make,
@@ -68,7 +68,7 @@ impl TryFrom<[u8; 2]> for Header {
 }
 
 // A command with its operands, which stay a part of the session.
-#[derive(Clone, Copy)]
+#[derive(Clone, Copy, Debug, PartialEq, Eq)]
 pub enum Command<'a> {
     // `S`: the order in a slot of the shelf.
     Slot { slot: u8 },
@@ -95,7 +95,7 @@ pub enum Command<'a> {
 }
 
 // How many bytes `E` and `W` take under the map in force.
-#[derive(Clone, Copy)]
+#[derive(Clone, Copy, Debug, PartialEq, Eq)]
 pub struct Sizes {
     pub informed: usize,
     pub positions: usize,

@@ -46,10 +46,12 @@ impl fmt::Display for Line<'_> {
             }
             Err(fault) => {
                 let report = Report::from(fault);
-                let letter = shown_letter(report, self.letter);
-                let answer = report.number;
-                let layer = report.layer;
-                let place = report.place;
+                let letter = Letter::shown(report, self.letter);
+                let Report {
+                    number: answer,
+                    layer,
+                    place,
+                } = report;
                 writeln!(f, "{number} {letter} {answer} {layer} {place}")
             }
         }
@@ -63,24 +65,26 @@ struct Letter {
     ghost ascii: { byte < 128 },
 }
 
+impl Letter {
+    // A letter that is not known is shown as `?`, and so is that of a session that is too long.
+    fn shown(report: Report, byte: u8) -> Letter
+        requires { shown_letter report byte < 128 }
+        ensures { result.byte ≡ shown_letter report byte }
+    {
+        if report.number == 15 || report.number == 19 {
+            Letter { byte: b'?' }
+        } else {
+            Letter { byte }
+        }
+    }
+}
+
 impl fmt::Display for Letter {
     ghost output = { λ l. Some (l.byte ∷ []) };
 
     #[tactic(auto, using(crate::proofs::Lines::ascii_char))]
     fn fmt<W: fmt::Write>(&self, f: &mut fmt::Formatter<W>) -> fmt::Result {
         f.write_char(char::from(self.byte))
-    }
-}
-
-// A letter that is not known is shown as `?`, and so is that of a session that is too long.
-fn shown_letter(report: Report, letter: u8) -> Letter
-    requires { shown_letter report letter < 128 }
-    ensures { result.byte ≡ shown_letter report letter }
-{
-    if report.number == 15 || report.number == 19 {
-        Letter { byte: b'?' }
-    } else {
-        Letter { byte: letter }
     }
 }
 
