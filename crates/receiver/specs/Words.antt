@@ -16,7 +16,7 @@ use Rattle.receiver.specs.declared.states.Asked.TheVariants.{Word, Advance, Take
 use Rattle.receiver.specs.Admissions.{admitted, replied, in_force}
 use Rattle.receiver.specs.Agreement.{roomy}
 use Rattle.receiver.specs.Capping.{caps_of}
-use Rattle.receiver.specs.Model.{values_of, right_buffers}
+use Rattle.receiver.specs.Model.{values_of, right_buffers, message_in}
 use Rattle.receiver.specs.Steps.{Walks}
 
 -- a question, and those that come after it
@@ -58,6 +58,13 @@ abbrev pub steps_kept : State → ℕ
 steps_kept Idle = 0
 steps_kept (Working height steps) = steps
 steps_kept (Finished steps) = steps
+
+-- a take, behind its questions: the word and its message are written, the word in hand is ended, and all steps made are answered; refused, all is as it was
+pub record HandedOver (door : Option ReceiverFault) (n : ℕ) (marks row message message' word word' : List ℕ) (state state' : State) (answer : Result ℕ ReceiverFault) : Type 0 where
+  pub answered : answer ≡ replied door (steps_kept state)
+  pub written : word' ≡ in_force door (take (2 ^ n) row) word
+  pub read : message' ≡ in_force door (message_in n marks (take (2 ^ n) row)) message
+  pub ended : state' ≡ in_force door Idle state
 
 -- what is kept of a word in hand, by the height of its pending steps and the steps made
 abbrev pub kept_after : ℕ → ℕ → State

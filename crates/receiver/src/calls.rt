@@ -5,7 +5,7 @@ ghost use Rattle.receiver.specs.declared.memory.Step.{Step as Pending};
 ghost use Rattle.receiver.specs.Agreement.{Agrees, room_for, roomy};
 ghost use Rattle.receiver.specs.Admissions.{admitted, replied, in_force};
 ghost use Rattle.receiver.specs.Model.{Model, fresh, caps_fault, full_length, short_length, right_buffers, message_in};
-ghost use Rattle.receiver.specs.Words.{TakenInHand, word_door, take_asked, steps_kept, advance_door, kept_after, Goes, answer_of};
+ghost use Rattle.receiver.specs.Words.{TakenInHand, word_door, take_asked, HandedOver, steps_kept, advance_door, kept_after, Goes, answer_of};
 
 use crate::advancing::{Progress, make_steps};
 use crate::answers::Advance;
@@ -144,10 +144,7 @@ impl<M: Map + Copy, S: Soft + Copy> Receiver<M, S> {
         message: &mut [u8],
         word: &mut [u8],
     ) -> Result<u32, ReceiverFault>
-        ensures answer { result ≡ replied (take_asked self.old.state (M.Map.exponent self.old.map) (M.Map.marks self.old.map) memory.old (length message.old) (length word.old)) (steps_kept self.old.state) }
-        ensures word { word.new ≡ in_force (take_asked self.old.state (M.Map.exponent self.old.map) (M.Map.marks self.old.map) memory.old (length message.old) (length word.old)) (take (2 ^ M.Map.exponent self.old.map) memory.old.bits.now) word.old }
-        ensures message { message.new ≡ in_force (take_asked self.old.state (M.Map.exponent self.old.map) (M.Map.marks self.old.map) memory.old (length message.old) (length word.old)) (message_in (M.Map.exponent self.old.map) (M.Map.marks self.old.map) (take (2 ^ M.Map.exponent self.old.map) memory.old.bits.now)) message.old }
-        ensures state { self.new.state ≡ in_force (take_asked self.old.state (M.Map.exponent self.old.map) (M.Map.marks self.old.map) memory.old (length message.old) (length word.old)) State.Idle self.old.state }
+        ensures handed { HandedOver (take_asked self.old.state (M.Map.exponent self.old.map) (M.Map.marks self.old.map) memory.old (length message.old) (length word.old)) (M.Map.exponent self.old.map) (M.Map.marks self.old.map) memory.old.bits.now message.old message.new word.old word.new self.old.state self.new.state result }
         ensures rest { (self.new.map ≡ self.old.map) × (self.new.caps ≡ self.old.caps) }
         ensures lent { SameLoans memory.old memory.new }
         ensures kept { (memory.new.soft.now ≡ memory.old.soft.now) × (memory.new.pending.now ≡ memory.old.pending.now) × (memory.new.bits.now ≡ memory.old.bits.now) }

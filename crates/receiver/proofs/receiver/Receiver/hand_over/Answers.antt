@@ -1,4 +1,4 @@
-use Rattle.std.proofs.Common.{◌≡◌, ◌^◌, eqb, length, take, None, sym, refl, ap, ◌∙◌, rules}
+use Rattle.std.proofs.Common.{◌≡◌, ◌^◌, eqb, length, take, None, sym, ap, ◌∙◌, rules}
 use Rattle.std.proofs.lemmas.Bool.{and_parts, eqb-true}
 use Rattle.code.specs.Encode.{informed, informed_count, message_fault}
 use Rattle.code.specs.Faults as code
@@ -9,8 +9,8 @@ use Rattle.receiver.specs.Model.{message_in}
 use Rattle.receiver.specs.Words.{take_asked}
 use Rattle.receiver.proofs.receiver.Receiver.hand_over.Goals as goal
 
-pub returns : goal.returns
-returns g c =
+pub returns-clause-handed : goal.returns-clause-handed
+returns-clause-handed g c =
     let map = c.args.self.now.map in
     let n = g.M.Map.exponent map in
     let marks = g.M.Map.marks map in
@@ -29,11 +29,8 @@ returns g c =
     let read : c.message_of.new.message ≡ message_in n marks (take (2 ^ n) bits) =
     c.message_of.ensures.message ∙ ap (λ o. code.in_force o (informed marks (transform n c.copy_front.new.word)) message) fault ∙ ap (λ w. informed marks (transform n w)) copied in
     record {
-      answer = search rules;
-      word = c.message_of.ensures.word ∙ copied ∙ sym (ap (λ o. in_force o (take (2 ^ n) bits) word) door);
-      message = read ∙ sym (ap (λ o. in_force o (message_in n marks (take (2 ^ n) bits)) message) door);
-      state = search rules;
-      rest = (refl, refl);
-      lent = search rules;
-      kept = (refl, refl, refl);
+      answered = search rules;
+      written = c.message_of.ensures.word ∙ copied ∙ sym (ap (λ o. in_force o (take (2 ^ n) bits) word) door);
+      read = read ∙ sym (ap (λ o. in_force o (message_in n marks (take (2 ^ n) bits)) message) door);
+      ended = search rules;
     }
