@@ -6,7 +6,7 @@ use Rattle.code.specs.Transform.{transform}
 use Rattle.code.proofs.Encodings.{both_right}
 use Rattle.receiver.specs.Admissions.{in_force}
 use Rattle.receiver.specs.Model.{message_in}
-use Rattle.receiver.specs.Words.{take_asked}
+use Rattle.receiver.specs.Standings.{take_asked}
 use Rattle.receiver.proofs.receiver.Receiver.hand_over.Goals as goal
 
 pub returns-clause-handed : goal.returns-clause-handed
@@ -20,7 +20,7 @@ returns-clause-handed g c =
     let message = c.args.message.now in
     let word = c.args.word.now in
     let state = c.args.self.now.state in
-    let door : take_asked state n marks c.args.memory.now (length message) (length word) ≡ None = search rules in
+    let door : take_asked g.M.Map.exponent g.M.Map.marks c.args.self.now c.args.memory.now (length message) (length word) ≡ None = search rules in
     let right = and_parts (eqb (length message) (informed_count marks)) (eqb (length word) (2 ^ n)) (sym c.if-not-right_buffers.ensures) in
     let size = c.position_count-size.ensures in
     let copied : c.copy_front.new.word ≡ take (2 ^ n) bits = c.copy_front.ensures ∙ ap (λ k. take k bits) size.value in
