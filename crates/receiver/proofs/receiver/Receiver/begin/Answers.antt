@@ -1,9 +1,9 @@
-use Rattle.std.proofs.Common.{◌≡◌, [], ◌∷◌, take, None, sym, ap, ◌∙◌, arith, rules}
+use Rattle.std.proofs.Common.{◌≡◌, ◌-◌, [], ◌∷◌, ◌++◌, map, length, replicate, subst, take, None, sym, ap, ◌∙◌, arith, rules}
 use Rattle.std.proofs.lemmas.List.{take_more_set}
 use Rattle.receiver.specs.declared.memory.Next.TheVariants as next
 use Rattle.receiver.specs.Agreement.{roomy}
+use Rattle.receiver.specs.Model.{value_of}
 use Rattle.receiver.specs.Words.{word_door}
-use Rattle.receiver.proofs.Loads.{loaded}
 use Rattle.std.proofs.lemmas.Float.{T_from_true}
 use Rattle.receiver.proofs.Rooms.{room_found}
 use Rattle.receiver.proofs.receiver.Receiver.begin.Goals as goal
@@ -23,7 +23,7 @@ returns-clause-taken g c =
       answered = search rules;
       working = search rules;
       bits = search rules;
-      values = λ e. loaded kind n c.args.bytes.now c.load.new.soft fits (omega (arith, room.soft_room, c.load.auto.soft)) (λ i d h. c.load.ensures i d (omega (arith, size)));
+      values = λ e. subst (λ k. take k c.load.new.soft ≡ map (λ b. value_of kind (kind.read b)) c.args.bytes.now ++ replicate (k - length c.args.bytes.now) kind.fill) size c.load.ensures;
       first = λ e. ap (take 1) c.put_alone.ensures ∙ take_more_set steps 0 _ (omega (arith, room.step_room)) ∙ ap (λ k. record { next = next.First; start = 0; e = k } ∷ []) c.n.ensures.value;
       kept = search rules;
     }
