@@ -1,5 +1,5 @@
 -- Memory that was found large enough. Assumes nothing.
-use Rattle.std.proofs.Common.{◌≡◌, ℕ, ◌*◌, ◌^◌, Bool, true, false, T, leb, List, length, sym, subst}
+use Rattle.std.proofs.Common.{◌≡◌, ℕ, ◌*◌, ◌^◌, true, leb, List, length}
 use Rattle.std.proofs.lemmas.Bool.{and_parts, leb-true}
 use Rattle.receiver.specs.declared.memory.Step.{Step}
 use Rattle.receiver.specs.Agreement.{roomy}
@@ -10,7 +10,3 @@ room_found n soft steps row found =
     let a = and_parts (leb (2 * 2 ^ n) (length soft)) _ found in
     let b = and_parts (leb 64 (length steps)) (leb (2 ^ n) (length row)) a.1 in
     record { soft_room = leb-true (2 * 2 ^ n) (length soft) a.0; step_room = leb-true 64 (length steps) b.0; bit_room = leb-true (2 ^ n) (length row) b.1 }
-
-pub true_holds : (b : Bool) → b ≡ true → T b
-true_holds true e = tt
-true_holds false e = subst T (sym e) tt

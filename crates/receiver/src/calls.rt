@@ -5,7 +5,8 @@ ghost use Rattle.receiver.specs.declared.memory.Step.{Step as Pending};
 ghost use Rattle.receiver.specs.Agreement.{Agrees, room_for, roomy};
 ghost use Rattle.receiver.specs.Admissions.{admitted, replied, in_force};
 ghost use Rattle.receiver.specs.Model.{Model, fresh, caps_fault, full_length, short_length, right_buffers, message_in};
-ghost use Rattle.receiver.specs.Words.{TakenInHand, word_door, take_asked, steps_kept, advance_door, kept_after, Goes, answer_of};
+ghost use Rattle.receiver.specs.Standings.{memory_fits, take_asked, TakesInHand, Advances};
+ghost use Rattle.receiver.specs.Words.{HandedOver, steps_kept, kept_after, answer_of};
 
 use crate::advancing::{Progress, make_steps};
 use crate::answers::Advance;
@@ -23,7 +24,7 @@ use std::marker::PhantomData;
 
 // Is the memory large enough for the map's positions: 2N soft numbers, 64 pending steps and N bits?
 fn has_room<M: Map, S>(map: &M, memory: &Memory<S>) -> bool
-    ensures { result ≡ roomy (M.Map.exponent map.now) memory.now.soft.now memory.now.pending.now memory.now.bits.now }
+    ensures { result ≡ memory_fits (M.Map.exponent map.now) memory.now }
 {
     let size = position_count(map);
     memory.soft.len() >= 2 * size && memory.pending.len() >= 64 && memory.bits.len() >= size
@@ -110,7 +111,7 @@ impl<M: Map + Copy, S: Soft + Copy> Receiver<M, S> {
         fits: bool,
     ) -> Result<(), ReceiverFault>
         requires { T fits → length bytes.now ≤ 2 ^ M.Map.exponent self.old.map }
-        ensures taken { TakenInHand S.Soft.kind (M.Map.exponent self.old.map) (word_door S.Soft.kind self.old.state fits (roomy (M.Map.exponent self.old.map) memory.old.soft.now memory.old.pending.now memory.old.bits.now) bytes.now) bytes.now memory.old.soft.now memory.new.soft.now memory.old.pending.now memory.new.pending.now memory.old.bits.now memory.new.bits.now self.old.state self.new.state result }
+        ensures taken { TakesInHand S.Soft.kind M.Map.exponent fits bytes.now self.old memory.old self.new memory.new result }
         ensures rest { (self.new.map ≡ self.old.map) × (self.new.caps ≡ self.old.caps) }
         ensures lent { SameLoans memory.old memory.new }
     {
@@ -144,10 +145,7 @@ impl<M: Map + Copy, S: Soft + Copy> Receiver<M, S> {
         message: &mut [u8],
         word: &mut [u8],
     ) -> Result<u32, ReceiverFault>
-        ensures answer { result ≡ replied (take_asked self.old.state (M.Map.exponent self.old.map) (M.Map.marks self.old.map) memory.old (length message.old) (length word.old)) (steps_kept self.old.state) }
-        ensures word { word.new ≡ in_force (take_asked self.old.state (M.Map.exponent self.old.map) (M.Map.marks self.old.map) memory.old (length message.old) (length word.old)) (take (2 ^ M.Map.exponent self.old.map) memory.old.bits.now) word.old }
-        ensures message { message.new ≡ in_force (take_asked self.old.state (M.Map.exponent self.old.map) (M.Map.marks self.old.map) memory.old (length message.old) (length word.old)) (message_in (M.Map.exponent self.old.map) (M.Map.marks self.old.map) (take (2 ^ M.Map.exponent self.old.map) memory.old.bits.now)) message.old }
-        ensures state { self.new.state ≡ in_force (take_asked self.old.state (M.Map.exponent self.old.map) (M.Map.marks self.old.map) memory.old (length message.old) (length word.old)) State.Idle self.old.state }
+        ensures handed { HandedOver (take_asked M.Map.exponent M.Map.marks self.old memory.old (length message.old) (length word.old)) (M.Map.exponent self.old.map) (M.Map.marks self.old.map) memory.old.bits.now message.old message.new word.old word.new self.old.state self.new.state result }
         ensures rest { (self.new.map ≡ self.old.map) × (self.new.caps ≡ self.old.caps) }
         ensures lent { SameLoans memory.old memory.new }
         ensures kept { (memory.new.soft.now ≡ memory.old.soft.now) × (memory.new.pending.now ≡ memory.old.pending.now) × (memory.new.bits.now ≡ memory.old.bits.now) }
@@ -173,7 +171,7 @@ impl<M: Map + Copy, S: Soft + Copy> Receiver<M, S> {
         memory: &mut Memory<S>,
         allowance: u16,
     ) -> Result<Advance, ReceiverFault>
-        ensures goes { Goes S.Soft.kind (M.Map.exponent self.old.map) (M.Map.marks self.old.map) self.old.caps allowance (advance_door self.old.state (roomy (M.Map.exponent self.old.map) memory.old.soft.now memory.old.pending.now memory.old.bits.now)) self.old.state self.new.state memory.old.soft.now memory.old.pending.now memory.old.bits.now memory.new.soft.now memory.new.pending.now memory.new.bits.now (answer_of result) }
+        ensures goes { Advances S.Soft.kind M.Map.exponent M.Map.marks allowance self.old memory.old self.new memory.new (answer_of result) }
         ensures rest { (self.new.map ≡ self.old.map) × (self.new.caps ≡ self.old.caps) }
         ensures lent { SameLoans memory.old memory.new }
     {
