@@ -17,7 +17,7 @@ use crate::memory::{Memory, Next, Step};
 use crate::pending::put_alone;
 use crate::receiver::Receiver;
 use crate::states::{Asked, State, admit};
-use code::encode::{informed_count, message_of, position_count};
+use code::encode::{message_of, position_count, right_lengths};
 use code::map::Map;
 use soft::soft::Soft;
 use std::marker::PhantomData;
@@ -28,13 +28,6 @@ fn has_room<M: Map, S>(map: &M, memory: &Memory<S>) -> bool
 {
     let size = position_count(map);
     memory.soft.len() >= 2 * size && memory.pending.len() >= 64 && memory.bits.len() >= size
-}
-
-// Have the message and the word a byte for each informed position and for each position?
-fn right_buffers<M: Map>(map: &M, message: usize, word: usize) -> bool
-    ensures { result ≡ right_buffers (M.Map.exponent map.now) (M.Map.marks map.now) message word }
-{
-    message == informed_count(map) && word == position_count(map)
 }
 
 // How many steps were made of the word in hand.
@@ -155,7 +148,7 @@ impl<M: Map + Copy, S: Soft + Copy> Receiver<M, S> {
             return Err(ReceiverFault::Memory);
         }
         let size = position_count(&self.map);
-        if !right_buffers(&self.map, message.len(), word.len()) {
+        if !right_lengths(&self.map, message.len(), word.len()) {
             return Err(ReceiverFault::Length);
         }
         copy_front(memory, word, size);
