@@ -1,5 +1,5 @@
 -- What the map answers of the spans along a path. Assumes nothing.
-use Rattle.std.proofs.Common.{◌≡◌, ℕ, zero, suc, ◌+◌, ◌%◌, ◌^◌, ◌≤◌, Bool, true, false, cond, ◌||◌, eqb, List, [], ◌∷◌, length, get_or, drop, Some, None, Ok, Err, Option, sym, refl, ap, ◌∙◌, ⊎_elim, arith}
+use Rattle.std.proofs.Common.{◌≡◌, ℕ, zero, suc, ◌+◌, ◌%◌, ◌^◌, ◌≤◌, Bool, true, false, cond, ◌||◌, eqb, List, [], ◌∷◌, length, get_or, drop, Some, None, Ok, Err, Option, sym, refl, ap, ◌∙◌, ⊎_elim, arith, subst}
 use native.Mathlib.Nat.{mul-mod_left}
 use Rattle.std.proofs.lemmas.Bool.{cases_eq, eq-eqb, ne_eqb, le-leb, or_left, or_right, and_from}
 use Rattle.std.proofs.lemmas.List.{get_or-take, get_or-drop}
@@ -36,6 +36,10 @@ kind_marks marks k is = go kinds is
             let jk : j ≡ k = cc in
             eq_from_same marks (pattern j (length marks)) e ∙ ap (λ i. pattern i (length marks)) jk
         here false e later = later (sym (ap (λ b. cond b (Some j) (first_fit ks marks)) e) ∙ h)
+
+-- what a map means, told by its own n
+pub means_known : {k n : ℕ} {marks : List ℕ} → k ≡ n → Means k marks → Means n marks
+means_known {k} {n} {marks} is means = subst (λ m. Means m marks) is means
 
 -- a single position has a kind
 pub single_kind : (marks : List ℕ) → length marks ≡ 1 → get_or marks 0 0 ≤ 1 → kind_of marks ≡ None → ⊥

@@ -1,5 +1,5 @@
 // As many steps as an allowance and the remaining work permit.
-ghost use Rattle.std.specs.Prelude.{◌≡◌, ◌≤◌};
+ghost use Rattle.std.specs.Prelude.{◌≤◌};
 ghost use Rattle.receiver.specs.Lent.{SameLoans};
 ghost use Rattle.receiver.specs.Capping.{caps_of};
 ghost use Rattle.receiver.specs.Steps.{Roomy, Inside, Walks};

@@ -1,10 +1,8 @@
 // What each of the receiver's calls does.
-ghost use Rattle.std.specs.Prelude.{◌≡◌, ℕ, ◌+◌, ◌-◌, ◌^◌, ◌≤◌, min, ◌&&◌, T, List, length, take, Ok, Err};
+ghost use Rattle.std.specs.Prelude.{◌≡◌, ◌+◌, ◌-◌, ◌^◌, ◌≤◌, ◌&&◌, cond, Some, None, min, T, length, take, Ok, Err};
 ghost use Rattle.receiver.specs.Lent.{SameLoans};
-ghost use Rattle.receiver.specs.declared.memory.Step.{Step as Pending};
-ghost use Rattle.receiver.specs.Agreement.{Agrees, room_for, roomy};
 ghost use Rattle.receiver.specs.Admissions.{admitted, replied, in_force};
-ghost use Rattle.receiver.specs.Model.{Model, fresh, caps_fault, full_length, short_length, right_buffers, message_in};
+ghost use Rattle.receiver.specs.Model.{caps_fault, right_buffers};
 ghost use Rattle.receiver.specs.Standings.{memory_fits, take_asked, TakesInHand, Advances};
 ghost use Rattle.receiver.specs.Words.{HandedOver, steps_kept, kept_after, answer_of};
 
@@ -12,7 +10,7 @@ use crate::advancing::{Progress, make_steps};
 use crate::answers::Advance;
 use crate::caps::Caps;
 use crate::faults::ReceiverFault;
-use crate::loading::{clear_bits, load, lowest_unread};
+use crate::loading::{all_read, clear_bits, load};
 use crate::memory::{Memory, Next, Step};
 use crate::pending::put_alone;
 use crate::receiver::Receiver;
@@ -20,14 +18,16 @@ use crate::states::{Asked, State, admit};
 use code::encode::{message_of, position_count, right_lengths};
 use code::map::Map;
 use soft::soft::Soft;
-use std::marker::PhantomData;
 
 // Is the memory large enough for the map's positions: 2N soft numbers, 64 pending steps and N bits?
-fn has_room<M: Map, S>(map: &M, memory: &Memory<S>) -> bool
-    ensures { result ≡ memory_fits (M.Map.exponent map.now) memory.now }
+fn enough_memory<M: Map, S>(map: &M, memory: &Memory<S>) -> Result<(), ReceiverFault>
+    ensures { result ≡ replied (cond (memory_fits (M.Map.exponent map.now) memory.now) None (Some ReceiverFault.Memory)) tt }
 {
     let size = position_count(map);
-    memory.soft.len() >= 2 * size && memory.pending.len() >= 64 && memory.bits.len() >= size
+    if memory.soft.len() < 2 * size || memory.pending.len() < 64 || memory.bits.len() < size {
+        return Err(ReceiverFault::Memory);
+    }
+    Ok(())
 }
 
 // How many steps were made of the word in hand.
@@ -45,10 +45,9 @@ fn kept_after(progress: Progress, steps: u32) -> State
     ensures { result ≡ kept_after progress.height (min (steps + progress.made) (2 ^ 32 - 1)) }
 {
     let all = steps.saturating_add(u32::from(progress.made));
-    if progress.height == 0 {
-        State::Finished(all)
-    } else {
-        State::Working(progress.height, all)
+    match progress.height {
+        0 => State::Finished(all),
+        height => State::Working(height, all),
     }
 }
 
@@ -112,12 +111,8 @@ impl<M: Map + Copy, S: Soft + Copy> Receiver<M, S> {
         if !fits {
             return Err(ReceiverFault::Length);
         }
-        if !has_room(&self.map, memory) {
-            return Err(ReceiverFault::Memory);
-        }
-        if let Some(at) = lowest_unread::<S>(bytes) {
-            return Err(ReceiverFault::Byte(at));
-        }
+        enough_memory(&self.map, memory)?;
+        all_read::<S>(bytes)?;
         let size = position_count(&self.map);
         load(memory.soft, bytes, size);
         clear_bits(memory.bits, size);
@@ -144,9 +139,7 @@ impl<M: Map + Copy, S: Soft + Copy> Receiver<M, S> {
         ensures kept { (memory.new.soft.now ≡ memory.old.soft.now) × (memory.new.pending.now ≡ memory.old.pending.now) × (memory.new.bits.now ≡ memory.old.bits.now) }
     {
         admit(self.state, Asked::Take)?;
-        if !has_room(&self.map, memory) {
-            return Err(ReceiverFault::Memory);
-        }
+        enough_memory(&self.map, memory)?;
         let size = position_count(&self.map);
         if !right_lengths(&self.map, message.len(), word.len()) {
             return Err(ReceiverFault::Length);
@@ -169,9 +162,7 @@ impl<M: Map + Copy, S: Soft + Copy> Receiver<M, S> {
         ensures lent { SameLoans memory.old memory.new }
     {
         admit(self.state, Asked::Advance)?;
-        if !has_room(&self.map, memory) {
-            return Err(ReceiverFault::Memory);
-        }
+        enough_memory(&self.map, memory)?;
         match self.state {
             State::Working(height, steps) => {
                 let caps = self.caps;

@@ -1,16 +1,29 @@
 // Taking a word in hand: its values, and no bit decided.
 ghost use Rattle.std.specs.Prelude.{◌≡◌, ◌-◌, ◌≤◌, ◌++◌, map, length, take, drop, replicate, is_some, slice_index};
+ghost use Rattle.std.specs.Option.{option_map};
 ghost use Rattle.code.specs.Spans.{lowest_no};
+ghost use Rattle.receiver.specs.Admissions.{replied};
 ghost use Rattle.receiver.specs.Model.{value_of};
 
+use crate::faults::ReceiverFault;
 use crate::stack::Stack;
 use soft::soft::Soft;
 
 // The lowest place at which a byte does not read.
-pub(crate) fn lowest_unread<S: Soft + Copy>(bytes: &[u8]) -> Option<usize>
+fn lowest_unread<S: Soft + Copy>(bytes: &[u8]) -> Option<usize>
     ensures { result ≡ lowest_no (λ i. is_some (S.Soft.kind.read (slice_index bytes.now i))) 0 (length bytes.now) }
 {
     bytes.iter().position(|b| S::read(*b).is_none())
+}
+
+// Does every byte read? Else the lowest that does not is refused.
+pub(crate) fn all_read<S: Soft + Copy>(bytes: &[u8]) -> Result<(), ReceiverFault>
+    ensures { result ≡ replied (option_map ReceiverFault.Byte (lowest_no (λ i. is_some (S.Soft.kind.read (slice_index bytes.now i))) 0 (length bytes.now))) tt }
+{
+    match lowest_unread::<S>(bytes) {
+        Some(at) => Err(ReceiverFault::Byte(at)),
+        None => Ok(()),
+    }
 }
 
 // Puts the values of a word of `size` positions on an empty stack: those of its bytes, then the fill. The fill stands also for a byte that does not read.

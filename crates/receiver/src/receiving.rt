@@ -1,11 +1,11 @@
 // The receiver's seven calls, each with the law over every list of calls that has led to it.
-ghost use Rattle.std.specs.Prelude.{◌≡◌, ℕ, ◌^◌, ◌&&◌, List, [], length, take, nat_le};
+ghost use Rattle.std.specs.Prelude.{◌≡◌, ◌^◌, ℕ, List, [], length, take};
 ghost use Rattle.receiver.specs.Lent.{SameLoans};
 ghost use Rattle.receiver.specs.declared.memory.Step.{Step as Pending};
 ghost use Rattle.receiver.specs.Admissions.{admitted, replied, in_force};
 ghost use Rattle.receiver.specs.Calls.{Call};
 ghost use Rattle.receiver.specs.Histories.{Led, Anew, plain, went_to, taken_as};
-ghost use Rattle.receiver.specs.Model.{caps_fault, full_length, short_length, right_buffers, message_in};
+ghost use Rattle.receiver.specs.Model.{caps_fault, full_length, short_length, message_in};
 ghost use Rattle.receiver.specs.Standings.{memory_fits, take_asked, TakesInHand, Advances, GoesOn, GoesOnAnyway, StaysAsItWas};
 ghost use Rattle.receiver.specs.Words.{steps_kept, answer_of};
 

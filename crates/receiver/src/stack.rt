@@ -1,5 +1,5 @@
 // A stack in memory that somebody else lends, written once for every element.
-ghost use Rattle.std.specs.Prelude.{◌≡◌, ◌+◌, ◌-◌, ◌≤◌, length, is_ok, if◌then◌else◌, nat_lt, slice_set};
+ghost use Rattle.std.specs.Prelude.{◌≡◌, ◌+◌, ◌-◌, if◌then◌else◌, length, is_ok, nat_lt, slice_set};
 ghost use Rattle.receiver.specs.Stacks.{top_of};
 
 // The first `len` slots are on the stack, the last of them at its top.

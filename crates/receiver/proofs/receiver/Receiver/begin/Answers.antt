@@ -1,11 +1,11 @@
-use Rattle.std.proofs.Common.{◌≡◌, ◌-◌, [], ◌∷◌, ◌++◌, map, length, replicate, subst, take, None, sym, ap, ◌∙◌, arith, rules}
+use Rattle.std.proofs.Common.{◌≡◌, ◌-◌, [], ◌∷◌, ◌++◌, map, length, replicate, subst, take, None, ap, ◌∙◌, arith, rules}
 use Rattle.std.proofs.lemmas.List.{take_more_set}
 use Rattle.receiver.specs.declared.memory.Next.TheVariants as next
 use Rattle.receiver.specs.Agreement.{roomy}
 use Rattle.receiver.specs.Model.{value_of}
 use Rattle.receiver.specs.Words.{word_door}
 use Rattle.std.proofs.lemmas.Float.{T_from_true}
-use Rattle.receiver.proofs.Rooms.{room_found}
+use Rattle.receiver.proofs.Rooms.{room_answered}
 use Rattle.receiver.proofs.receiver.Receiver.begin.Goals as goal
 
 pub returns-clause-taken : goal.returns-clause-taken
@@ -16,7 +16,7 @@ returns-clause-taken g c =
     let steps = c.args.memory.now.pending.now in
     let bits = c.args.memory.now.bits.now in
     let door : word_door kind c.args.self.now.state c.args.fits (roomy n soft steps bits) c.args.bytes.now ≡ None = search rules in
-    let room = room_found n soft steps bits (sym c.if-not-has_room.ensures) in
+    let room = room_answered n soft steps bits c.in_ok-enough_memory.ensures in
     let fits = c.requires (T_from_true c.args.fits c.if-not-fits.false) in
     let size = c.position_count-size.ensures.value in
     record {

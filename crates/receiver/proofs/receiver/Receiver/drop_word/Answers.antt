@@ -2,6 +2,7 @@ use Rattle.code.specs.Spans.{Means}
 use Rattle.std.proofs.Common.{refl, sym, subst}
 use Rattle.receiver.proofs.Leads.{continues, same_receiver, anew}
 use Rattle.receiver.proofs.Refines.{agrees_drop}
+use Rattle.receiver.proofs.SpansAsked.{means_known}
 use Rattle.receiver.proofs.receiver.Receiver.drop_word.Goals as goal
 
 pub returns-clause-law : goal.returns-clause-law
@@ -18,5 +19,5 @@ returns-clause-anew g c =
     let was = c.args.self.now in
     let inner = c.end_word.ensures in
     let map = c.args.self.now.map in
-    let means = subst (λ k. Means k (g.M.Map.marks map)) c.n-n.ensures.value c.n-n.ensures.means in
+    let means = means_known c.n-n.ensures.value c.n-n.ensures.means in
     anew g.S.Soft.kind _ _ _ _ (subst (λ x. Means (g.M.Map.exponent x) (g.M.Map.marks x)) (sym inner.rest.0) means) c.end_word.new.self.low c.end_word.new.self.high
