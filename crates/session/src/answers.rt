@@ -1,4 +1,5 @@
 // What a command answers.
+ghost use Rattle.std.specs.Prelude.{◌≡◌, length};
 
 // What the line of a command that was done adds: nothing, numbers, a word, or the count of steps with a message and a word.
 #[derive(Clone, Copy)]
@@ -15,4 +16,6 @@ pub(crate) enum Answer<'b> {
 pub(crate) struct Buffers<'b> {
     pub(crate) message: &'b mut [u8],
     pub(crate) word: &'b mut [u8],
+    ghost message_room: { length message.now ≡ 1024 },
+    ghost word_room: { length word.now ≡ 1024 },
 }

@@ -171,8 +171,6 @@ impl<'a, S: Soft + Copy> State<'a, S> {
         memory: &mut Memory<S>,
         buffers: Buffers<'b>,
     ) -> Result<Answer<'b>, SessionFault>
-        requires message { length buffers.message.now ≡ 1024 }
-        requires word { length buffers.word.now ≡ 1024 }
         ensures works { Works S.Soft.kind (do_take S.Soft.kind at) result self.old memory.old self.new memory.new }
         ensures lent { SameLoans memory.old memory.new }
     {
@@ -192,14 +190,13 @@ impl<'a, S: Soft + Copy> State<'a, S> {
         &self,
         at: usize,
         message: &[u8],
-        word: &'b mut [u8],
+        buffers: Buffers<'b>,
     ) -> Result<Answer<'b>, SessionFault>
-        requires { length word.old ≡ 1024 }
         ensures { Does S.Soft.kind (do_encode at message.now) result self.now self.now }
     {
         let receiver = self.receiver.as_ref().ok_or(SessionFault::NoMap(at))?;
         let map = receiver.map();
-        let word = &mut word[0..position_count(&map)];
+        let word = &mut buffers.word[0..position_count(&map)];
         encode(&map, message, word)?;
         Ok(Answer::Word(word))
     }
@@ -214,9 +211,7 @@ impl<'a, S: Soft + Copy> State<'a, S> {
         memory: &mut Memory<S>,
         buffers: Buffers<'b>,
     ) -> Result<Answer<'b>, SessionFault>
-        requires message { length buffers.message.now ≡ 1024 }
-        requires word { length buffers.word.now ≡ 1024 }
-        requires placed { Placed sources.session.now at (request_of command) }
+        requires { Placed sources.session.now at (request_of command) }
         ensures works { Works S.Soft.kind (perform S.Soft.kind sources.entry.shelf.now at (request_of command.entry)) result self.old memory.old self.new memory.new }
         ensures lent { SameLoans memory.old memory.new }
     {
@@ -228,7 +223,7 @@ impl<'a, S: Soft + Copy> State<'a, S> {
             }
             Command::Ranked { k } => self.put_ranked(at, k),
             Command::Listed { n, marks } => self.put_listed(n, marks),
-            Command::Encode { message } => self.encode(at, message, buffers.word),
+            Command::Encode { message } => self.encode(at, message, buffers),
             Command::Caps { first, second } => self.put_caps(at, first, second),
             Command::Word { bytes } => self.word(at, bytes, memory),
             Command::ShortWord { bytes } => self.short_word(at, bytes, memory),

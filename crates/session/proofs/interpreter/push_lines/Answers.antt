@@ -15,8 +15,8 @@ loop-rest-init g c = record {
   lent = record { soft = refl; pending = refl; bits = refl; soft_long = refl; pending_long = refl; bits_long = refl };
 }
 
-pub run-answer-requires-clause-placed : goal.run-answer-requires-clause-placed
-run-answer-requires-clause-placed g c =
+pub run-answer-requires : goal.run-answer-requires
+run-answer-requires g c =
     let some : 0 < length c.loop-rest.rest.now = omega (arith, ltb-false) in
     let b = c.loop-rest.invariant.between in
     let sizes = c.sizes.ensures b.force _ b.stands in
