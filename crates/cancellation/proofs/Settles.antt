@@ -1,6 +1,6 @@
 -- What each rule's word is, and a span settled by it. Assumes nothing.
 use Rattle.std.proofs.Common.{◌≡◌, ℕ, ◌+◌, ◌-◌, ◌^◌, cond, List, length, Ok, Err, Result, sym, refl, ap, ◌∙◌, subst, arith, pow_pos}
-use Rattle.std.proofs.lemmas.Bool.{eq-eqb}
+use Rattle.std.proofs.lemmas.Bool.{eq-eqb, ne_eqb}
 use Rattle.cancellation.specs.declared.faults.RowFault.{RowFault}
 use Rattle.cancellation.specs.declared.faults.RowFault.TheVariants.{Length}
 use Rattle.soft.specs.Kind.{Kind, Laws}
@@ -33,6 +33,16 @@ module _ {S : Type 0} (kind : Kind S) where
   even_word e values word xor is found none =
       let some = turns_in e (size_at kind values) in
       (some.0, some.1, is ∙ sym (ap (λ t. cond t (signs kind values) (turned_at some.0 (signs kind values))) (eq-eqb (parity (signs kind values)) 0 (sym found ∙ none))))
+
+  -- one of them turned, where it is 1
+  pub odd_word : (e : ℕ) (values : List S) (word : List ℕ) (xor p : ℕ) → word ≡ signs kind values → xor ≡ parity (signs kind values) → (xor ≡ 0 → ⊥) →
+      Turns e (size_at kind values) (2 ^ e) p → Rule kind Spc e values (turned_at p word)
+  odd_word e values word xor p is found odd turns = (
+    p,
+    turns,
+    ap (turned_at p) is
+        ∙ sym (ap (λ t. cond t (signs kind values) (turned_at p (signs kind values))) (ne_eqb (parity (signs kind values)) 0 (λ z. odd (found ∙ z)))),
+  )
 
   module _ (laws : Laws kind) where
     -- the word of each rule is that of cancellation

@@ -1,8 +1,8 @@
 -- What the loops over rows leave in them. Assumes nothing.
-use Rattle.std.proofs.Common.{◌≡◌, ℕ, ◌+◌, ◌-◌, ◌*◌, ◌<◌, Bool, true, false, eqb, List, [], ◌∷◌, ◌++◌, length, get_or, take, drop, Ok, sym, refl, ap, ◌∙◌, ap₂, ⊎_elim, arith}
+use Rattle.std.proofs.Common.{◌≡◌, ℕ, ◌+◌, ◌*◌, ◌<◌, Bool, true, false, eqb, List, [], ◌∷◌, ◌++◌, length, get_or, take, drop, Ok, sym, refl, ap, ◌∙◌, arith, append_assoc, ap₂}
 use lib.Bits.{bit_xor, xor_zero_r}
-use Rattle.std.proofs.lemmas.List.{length-take, length-drop, length-append, get_or_append_left, get_or-append_right, get_or-take, get_or-drop, ext_get_or, take_more}
-use Rattle.std.proofs.lemmas.Bool.{cases_lt}
+use Rattle.std.proofs.Math.Seq.{take-add}
+use Rattle.std.proofs.lemmas.List.{length-take, length-drop, ext_get_or, take_more}
 use mir.Val.{bool_byte}
 use Rattle.soft.specs.Kind.{Kind}
 use Rattle.cancellation.specs.Rows.{bit, signs, check_row, join_row, Rowed}
@@ -10,46 +10,40 @@ use Rattle.cancellation.specs.Rules.{parity}
 use Rattle.cancellation.proofs.Combined.{length-check_row, length-join_row, get_or-check_row, get_or-join_row, signs_append}
 use Rattle.cancellation.proofs.Turned.{parity_append}
 
--- a row of three parts of which the last was written
-module _ {X : Type 0} (d : X) (h : ℕ) (old new made : List X) (long : length old ≡ 3 * h) (kept : length new ≡ length old) (made-long : length made ≡ h) where
-  pub third_written : ((k : ℕ) → k < h + h → get_or new k d ≡ get_or old k d) → ((k : ℕ) → k < h → get_or new (h + h + k) d ≡ get_or made k d) → new ≡ take (2 * h) old ++ made
-  third_written front back =
-      let lt : length (take (2 * h) old) ≡ h + h = simp length-take (omega arith) in
-      ext_get_or d new (take (2 * h) old ++ made) (simp length-append (omega arith))
-      (λ k below. ⊎_elim
-      (λ b. front k b ∙ sym (get_or_append_left (take (2 * h) old) made d k (omega arith) ∙ get_or-take (2 * h) old k d (omega arith)))
-      (λ b. let at : h + h + (k - (h + h)) ≡ k = omega arith in
-      ap (λ n. get_or new n d) (sym at) ∙ back (k - (h + h)) (omega arith) ∙ sym (get_or-append_right (take (2 * h) old) made (h + h) k d lt b))
-      (cases_lt k (h + h)))
+-- the check and the join of two rows, written place by place
+module _ {S : Type 0} (kind : Kind S) where
+  pub checked : (xs ys new : List S) → length xs ≡ length ys → length new ≡ length xs →
+      ((k : ℕ) → k < length xs → get_or new k kind.fill ≡ kind.check (get_or xs k kind.fill) (get_or ys k kind.fill)) → new ≡ check_row kind xs ys
+  checked xs ys new same long each =
+      ext_get_or kind.fill new (check_row kind xs ys) (long ∙ sym (length-check_row kind xs ys same))
+      (λ k h. each k (omega arith) ∙ sym (get_or-check_row kind xs ys k (omega arith) same))
 
-module _ {S : Type 0} (kind : Kind S) (h : ℕ) (old new : List S) (long : length old ≡ 3 * h) (kept : length new ≡ length old)
-    (front : (k : ℕ) → k < h + h → get_or new k kind.fill ≡ get_or old k kind.fill) where
-  first_long : length (take h old) ≡ h
-  first_long = simp length-take (omega arith)
+  pub joined : (xs ys new : List S) (βs : List ℕ) → length xs ≡ length ys → length xs ≡ length βs → length new ≡ length xs →
+      ((k : ℕ) → k < length xs → get_or new k kind.fill ≡ kind.join (get_or xs k kind.fill) (get_or ys k kind.fill) (eqb (get_or βs k 0) 1)) → new ≡ join_row kind xs ys βs
+  joined xs ys new βs same same-β long each =
+      ext_get_or kind.fill new (join_row kind xs ys βs) (long ∙ sym (length-join_row kind xs ys βs same same-β))
+      (λ k h. each k (omega arith) ∙ sym (get_or-join_row kind xs ys βs k (omega arith) same same-β))
 
-  second_long : length (take h (drop h old)) ≡ h
-  second_long = simp (length-take, length-drop) (omega arith)
+-- a row of three parts of which the last is written
+module _ {S : Type 0} (h : ℕ) (rows left rest right room : List S) (long : length rows ≡ 3 * h)
+    (is-left : left ≡ take h rows) (is-rest : rest ≡ drop h rows) (is-right : right ≡ take h rest) where
+  pub left_long : length left ≡ h
+  left_long = ap length is-left ∙ simp length-take (omega arith)
 
-  second_at : (k : ℕ) → k < h → get_or (take h (drop h old)) k kind.fill ≡ get_or old (h + k) kind.fill
-  second_at k b = get_or-take h (drop h old) k kind.fill b ∙ get_or-drop h old k kind.fill
+  pub rest_long : length rest ≡ 2 * h
+  rest_long = ap length is-rest ∙ simp length-drop (omega arith)
 
-  pub checked : ((k : ℕ) → k < h → get_or new (h + h + k) kind.fill ≡ kind.check (get_or old k kind.fill) (get_or old (h + k) kind.fill))
-      → new ≡ take (2 * h) old ++ check_row kind (take h old) (take h (drop h old))
-  checked back =
-      let same = first_long ∙ sym second_long in
-      third_written kind.fill h old new _ long kept (length-check_row kind (take h old) (take h (drop h old)) same ∙ first_long) front
-      (λ k b. back k b ∙ sym (get_or-check_row kind (take h old) (take h (drop h old)) k (let l = first_long in omega arith) same
-      ∙ ap₂ kind.check (get_or-take h old k kind.fill b) (second_at k b)))
+  pub right_long : length right ≡ h
+  right_long = ap length is-right ∙ simp length-take (omega (arith, rest_long))
 
-  pub joined : (βs : List ℕ) → length βs ≡ h
-      → ((k : ℕ) → k < h → get_or new (h + h + k) kind.fill ≡ kind.join (get_or old k kind.fill) (get_or old (h + k) kind.fill) (eqb (get_or βs k 0) 1))
-      → new ≡ take (2 * h) old ++ join_row kind (take h old) (take h (drop h old)) βs
-  joined βs βs-long back =
-      let same = first_long ∙ sym second_long in
-      let same-β = first_long ∙ sym βs-long in
-      third_written kind.fill h old new _ long kept (length-join_row kind (take h old) (take h (drop h old)) βs same same-β ∙ first_long) front
-      (λ k b. back k b ∙ sym (get_or-join_row kind (take h old) (take h (drop h old)) βs k (let l = first_long in omega arith) same same-β
-      ∙ ap₂ (λ x y. kind.join x y (eqb (get_or βs k 0) 1)) (get_or-take h old k kind.fill b) (second_at k b)))
+  pub right_is : right ≡ take h (drop h rows)
+  right_is = is-right ∙ ap (take h) is-rest
+
+  pub third_written : (made : List S) → left ++ (right ++ made) ≡ take (2 * h) rows ++ made
+  third_written made =
+      let two : h + h ≡ 2 * h = omega arith in
+      sym (append_assoc left right made)
+      ∙ ap (λ row. row ++ made) (ap₂ (λ a b. a ++ b) is-left right_is ∙ sym (take-add h h rows) ∙ ap (λ n. take n rows) two)
 
 -- rows of the lengths that were asked for
 pub rowed : {X : Type 0} (asked : ℕ → Type 0) (made : ℕ → List X) (before after : List X) (n : ℕ) →

@@ -1,5 +1,5 @@
 -- What settling a span does: cited by `settle`. Assumes nothing.
-use Rattle.std.specs.Prelude.{◌≡◌, ℕ, ◌^◌, ◌<◌, List, length, Some, None, Ok, Err, Option, Result, ◌≢◌}
+use Rattle.std.specs.Prelude.{◌≡◌, ℕ, ◌^◌, List, length, Ok, Err, Result, ◌≢◌}
 use Rattle.soft.specs.Kind.{Kind}
 use Rattle.code.specs.declared.kinds.SpanKind.{SpanKind}
 use Rattle.code.specs.declared.kinds.SpanKind.TheVariants.{Rate0, Rate1, Rep, Spc}
@@ -9,11 +9,6 @@ use Rattle.cancellation.specs.declared.faults.RowFault.TheVariants.{Length}
 use Rattle.cancellation.specs.Cancel.{cancel}
 use Rattle.cancellation.specs.Rules.{Rule, folded}
 use Rattle.cancellation.specs.Cost.{Cheap}
-
--- the e of a number 2 ^ e, which is below 64, or none
-abbrev pub Exponent : ℕ → Option ℕ → Type 0
-Exponent n None = (e : ℕ) → n ≢ 2 ^ e
-Exponent n (Some e) = (n ≡ 2 ^ e) × (e < 64)
 
 -- the row of a span after it was settled: Rep halves it in place, the other rules leave it as it was
 abbrev pub row_after : {S : Type 0} → Kind S → SpanKind → ℕ → List S → List S

@@ -1,6 +1,6 @@
 // Why a row is refused.
 
-#[derive(Clone, Copy)]
+#[derive(Clone, Copy, Debug, PartialEq, Eq)]
 pub enum RowFault {
     // The rows have not the lengths that the call needs.
     Length,

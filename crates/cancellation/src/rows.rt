@@ -3,6 +3,7 @@ ghost use Rattle.std.specs.Prelude.{◌≡◌, ◌*◌, length};
 ghost use Rattle.cancellation.specs.Rows.{Rowed, with_check, with_join, with_xor};
 
 use crate::faults::RowFault;
+use code::transform;
 use soft::soft::Soft;
 
 // `rows` is the row of a span and room for that of its left half, which is written: the check of the span's two halves.
@@ -13,37 +14,40 @@ pub fn check_row<S: Soft + Copy>(rows: &mut [S]) -> Result<(), RowFault>
         return Err(RowFault::Length);
     }
     let half = rows.len() / 3;
-    for i in 0..half {
-        rows[half + half + i] = rows[i].check(rows[half + i]);
+    let (left, rest) = rows.split_at_mut(half);
+    let (right, room) = rest.split_at_mut(half);
+    for (i, value) in room.iter_mut().enumerate() {
+        *value = left[i].check(right[i]);
     }
     Ok(())
 }
 
 // `rows` is the row of a span and room for that of its right half, which is written: the join of the span's two halves,
 // with the bits of the left half as β.
-pub fn join_row<S: Soft + Copy>(rows: &mut [S], left: &[u8]) -> Result<(), RowFault>
-    ensures { Rowed (λ h. (length rows.old ≡ 3 * h) × (length left.now ≡ h)) (with_join S.Soft.kind rows.old left.now) rows.old rows.new result }
+// Kept as bytes: the bits are the caller's.
+pub fn join_row<S: Soft + Copy>(rows: &mut [S], bits: &[u8]) -> Result<(), RowFault>
+    ensures { Rowed (λ h. (length rows.old ≡ 3 * h) × (length bits.now ≡ h)) (with_join S.Soft.kind rows.old bits.now) rows.old rows.new result }
 {
-    let half = left.len();
+    let half = bits.len();
     if rows.len() % 3 != 0 || rows.len() / 3 != half {
         return Err(RowFault::Length);
     }
-    for i in 0..half {
-        rows[half + half + i] = rows[i].join(rows[half + i], left[i] == 1);
+    let (left, rest) = rows.split_at_mut(half);
+    let (right, room) = rest.split_at_mut(half);
+    for (i, value) in room.iter_mut().enumerate() {
+        *value = left[i].join(right[i], bits[i] == 1);
     }
     Ok(())
 }
 
 // The bits of a span from those of its halves: the right half is XORed onto the left.
+// Kept beside the encoder's, which it calls: this one refuses a row that has no halves.
 pub fn xor_halves(bits: &mut [u8]) -> Result<(), RowFault>
     ensures { Rowed (λ h. length bits.old ≡ 2 * h) (with_xor bits.old) bits.old bits.new result }
 {
     if bits.len() % 2 != 0 {
         return Err(RowFault::Length);
     }
-    let half = bits.len() / 2;
-    for i in 0..half {
-        bits[i] ^= bits[half + i];
-    }
+    transform::xor_halves(bits);
     Ok(())
 }

@@ -1,27 +1,11 @@
 // Spans settled at once, by their kind.
 ghost use Rattle.cancellation.specs.Promises.{RightSigns, Allowed};
-ghost use Rattle.cancellation.specs.Settle.{Exponent, Settled};
+ghost use Rattle.cancellation.specs.Settle.{Settled};
 
 use crate::faults::RowFault;
-use crate::rules::{fill, repetition, single_parity, write_signs};
+use crate::rules::{repetition, single_parity, write_signs};
 use code::kinds::SpanKind;
 use soft::soft::Soft;
-
-// The e of 2 ^ e.
-fn exponent(n: usize) -> Option<u8>
-    ensures { Exponent n result }
-{
-    if n == 1 {
-        return Some(0);
-    }
-    if n == 0 || n % 2 != 0 {
-        return None;
-    }
-    match exponent(n / 2) {
-        Some(e) => Some(e + 1),
-        None => None,
-    }
-}
 
 // Writes the bits of a span of this kind from its values. Repetition halves the values in place.
 pub fn settle<S: Soft + Copy>(
@@ -36,16 +20,17 @@ pub fn settle<S: Soft + Copy>(
     if values.len() != bits.len() {
         return Err(RowFault::Length);
     }
-    let Some(e) = exponent(values.len()) else {
+    if !values.len().is_power_of_two() {
         return Err(RowFault::Length);
-    };
+    }
+    // Kept as a match: the kinds are a closed list, and each has one rule.
     match kind {
-        SpanKind::Rate0 => fill(bits, 0),
+        SpanKind::Rate0 => bits.fill(0),
         SpanKind::Rate1 => {
             let _ = write_signs(values, bits);
         }
-        SpanKind::Rep => repetition(values, bits, e),
-        SpanKind::Spc => single_parity(values, bits, e),
+        SpanKind::Rep => repetition(values, bits),
+        SpanKind::Spc => single_parity(values, bits),
     }
     Ok(())
 }

@@ -1,8 +1,9 @@
 -- An order is accepted where its ranks are lawful, and only there.
-use Rattle.std.proofs.Common.{◌≡◌, ℕ, zero, suc, ◌*◌, ◌^◌, ◌<◌, ◌≤◌, Bool, true, false, cond, not, eqb, ltb, leb, List, [], ◌∷◌, length, get_or, take, is_some, Some, None, Option, sym, refl, ◌∙◌, ⊎_elim, arith, length-take, get_or-take}
+use Rattle.std.proofs.Common.{◌≡◌, ℕ, zero, suc, ◌*◌, ◌^◌, ◌<◌, ◌≤◌, Bool, true, false, cond, not, eqb, ltb, leb, List, [], ◌∷◌, length, get_or, take, is_some, Some, None, Ok, Option, Result, sym, refl, ap, ◌∙◌, ⊎_elim, arith, length-take, get_or-take}
 use Rattle.std.proofs.lemmas.Bool.{cases_order, eq-eqb, eqb-true, ne_eqb, cond_both, and_parts, and_from, le-leb, leb-true, ltb-true, lt-ltb, not-true, not_from_false, both_ways}
 use Rattle.code.specs.declared.faults.MapFault.{MapFault}
 use Rattle.code.specs.declared.faults.MapFault.TheVariants.{Exponent, Length}
+use Rattle.code.specs.Faults.{answer_to}
 use Rattle.code.specs.Spans.{good_exponent, lowest_no}
 use Rattle.code.specs.Orders.{ranks_of, among, fresh_rank, keeps_law, ranks_fault, order_fault, Lawful}
 use Rattle.code.proofs.Lowest.{none_fails, all_pass}
@@ -25,7 +26,7 @@ pub none_from : (o : Option MapFault) → is_some o ≡ false → o ≡ None
 none_from None h = refl
 none_from (Some f) h = absurd (both_ways true h refl)
 
-good_from : (n : ℕ) (bytes : List ℕ) → order_fault n bytes ≡ None → (1 ≤ n) × (n ≤ 10)
+pub good_from : (n : ℕ) (bytes : List ℕ) → order_fault n bytes ≡ None → (1 ≤ n) × (n ≤ 10)
 unfolding order_fault
 good_from n bytes h =
     let both = and_parts (leb 1 n) (leb n 10) (passed (good_exponent n) Exponent _ h).0 in
@@ -36,7 +37,7 @@ pub long_from : (n : ℕ) (bytes : List ℕ) → order_fault n bytes ≡ None �
 unfolding order_fault
 long_from n bytes h = eqb-true (length bytes) (2 * 2 ^ n) (passed (eqb (length bytes) (2 * 2 ^ n)) Length _ (passed (good_exponent n) Exponent _ h).1).0
 
-ranks_from : (n : ℕ) (bytes : List ℕ) → order_fault n bytes ≡ None → (lowest_no (fresh_rank (ranks_of bytes)) 0 (2 ^ n) ≡ None) × (lowest_no (keeps_law n (ranks_of bytes)) 0 (2 ^ n) ≡ None)
+pub ranks_from : (n : ℕ) (bytes : List ℕ) → order_fault n bytes ≡ None → (lowest_no (fresh_rank (ranks_of bytes)) 0 (2 ^ n) ≡ None) × (lowest_no (keeps_law n (ranks_of bytes)) 0 (2 ^ n) ≡ None)
 unfolding order_fault ranks_fault
 ranks_from n bytes h =
     neither _ _ (passed (eqb (length bytes) (2 * 2 ^ n)) Length _ (passed (good_exponent n) Exponent _ h).1).1
@@ -105,11 +106,20 @@ accepted_from n bytes long lawful =
         (lt-ltb _ _ (rw lawful.long (lawful.below p lt)))
         (not_from_false _ (among_none (get_or (ranks_of bytes) p 0) (take p (ranks_of bytes)) (before p lt)))
 
+-- a call that was accepted found no fault
+none_of : (found : Option MapFault) → answer_to found ≡ Ok tt → found ≡ None
+none_of None e = refl
+none_of (Some f) e = absurd (cc e)
+
 -- what is known where the questions about an order gave this answer
-pub asked : (n : ℕ) (bytes : List ℕ) (answer : Option MapFault) → answer ≡ order_fault n bytes → record {
-  fault : answer ≡ order_fault n bytes;
-  lawful : answer ≡ None → Lawful n (ranks_of bytes);
-  all : length bytes ≡ 2 * 2 ^ n → Lawful n (ranks_of bytes) → answer ≡ None;
+pub asked : (n : ℕ) (bytes : List ℕ) (found : Option MapFault) (told : Result (Unit {0}) MapFault) → told ≡ answer_to found → found ≡ order_fault n bytes → record {
+  answer : told ≡ answer_to (order_fault n bytes);
+  lawful : told ≡ Ok tt → Lawful n (ranks_of bytes);
+  all : length bytes ≡ 2 * 2 ^ n → Lawful n (ranks_of bytes) → told ≡ Ok tt;
 }
-asked n bytes answer e =
-    record { fault = e; lawful = λ none. lawful_from n bytes (sym e ∙ none); all = λ long lawful. e ∙ accepted_from n bytes long lawful }
+asked n bytes found told is e =
+    record {
+      answer = is ∙ ap answer_to e;
+      lawful = λ accepted. lawful_from n bytes (none_of (order_fault n bytes) (sym (ap answer_to e) ∙ sym is ∙ accepted));
+      all = λ long lawful. is ∙ ap answer_to (e ∙ accepted_from n bytes long lawful);
+    }

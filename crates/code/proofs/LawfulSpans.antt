@@ -1,11 +1,9 @@
 -- The spans of an accepted order keep the law among themselves. Assumes nothing.
-use Rattle.std.proofs.Common.{◌≡◌, ℕ, zero, suc, ◌+◌, ◌-◌, ◌*◌, ◌/◌, ◌%◌, ◌^◌, ◌<◌, ◌≤◌, Bool, true, false, cond, not, eqb, List, length, get_or, is_some, Some, None, Option, refl, ap, ◌∙◌, inl, inr, mul_assoc, arith, pow_pos, pow_mono, pow-add}
+use Rattle.std.proofs.Common.{◌≡◌, ℕ, zero, suc, ◌+◌, ◌-◌, ◌*◌, ◌/◌, ◌%◌, ◌^◌, ◌<◌, ◌≤◌, Bool, true, false, cond, eqb, List, length, get_or, is_some, None, ap, ◌∙◌, inl, inr, mul_assoc, arith, pow_pos, pow_mono, pow-add}
 use native.Mathlib.Nat.{div-add-mod, add-mul-div_left}
-use Rattle.std.proofs.lemmas.Bool.{cases_eq, and_parts, leb-true, eqb-true, eq-eqb, ltb-true, not-false}
-use Rattle.code.specs.declared.faults.MapFault.{MapFault}
-use Rattle.code.specs.declared.faults.MapFault.TheVariants.{Exponent, Length, Rank, Law}
-use Rattle.code.specs.Spans.{good_exponent, lowest_no}
-use Rattle.code.specs.Orders.{ranks_of, exchange_keeps, exchanges_keep, setting_keeps, keeps_law, fresh_rank, ranks_fault, order_fault}
+use Rattle.std.proofs.lemmas.Bool.{cases_eq, and_parts, eq-eqb, ltb-true}
+use Rattle.code.specs.Orders.{ranks_of, exchange_keeps, exchanges_keep, setting_keeps, keeps_law, order_fault}
+use Rattle.code.proofs.Accepted.{none_from, good_from, long_from, ranks_from}
 use Rattle.code.proofs.Lowest.{none_fails}
 use Rattle.code.proofs.SpanLaw.{SpanLaw}
 use Rattle.code.proofs.Written.{length-ranks_of}
@@ -17,58 +15,26 @@ pub record Accepted (n : ℕ) (ranks : List ℕ) : Type 0 where
   pub long : length ranks ≡ 2 ^ n
   pub law : (p : ℕ) → p < 2 ^ n → keeps_law n ranks p ≡ true
 
-pub none_from-is_some : {X : Type 0} (o : Option X) → is_some o ≡ false → o ≡ None
-none_from-is_some None h = refl
-none_from-is_some (Some x) h = cc
-
--- what a passed test says of the next
-next : {X : Type 0} (b : Bool) (x : X) (o : Option X) → cond b (Some x) o ≡ None → (b ≡ false) × (o ≡ None)
-next true x o h = let never : ◌≡◌ {A = ℕ} 0 1 = cc in absurd (omega arith)
-next false x o h = (refl, h)
-
-kept : (n : ℕ) (ranks : List ℕ) → ranks_fault n ranks ≡ None → lowest_no (keeps_law n ranks) 0 (2 ^ n) ≡ None
-unfolding ranks_fault
-kept n ranks h = go (lowest_no (fresh_rank ranks) 0 (2 ^ n)) (lowest_no (keeps_law n ranks) 0 (2 ^ n)) h
-  where
-    outer : Option ℕ → Option ℕ → Option MapFault
-    outer f o = elim f [ Some p ↦ Some (Rank p) | None ↦ elim o [ Some p ↦ Some (Law p) | None ↦ None ] ]
-
-    go : (f o : Option ℕ) → outer f o ≡ None → o ≡ None
-    go (Some p) None is = cc
-    go (Some p) (Some q) is = cc
-    go None (Some p) is = cc
-    go None None is = refl
-
-pub bytes_long : (n : ℕ) (bytes : List ℕ) → order_fault n bytes ≡ None → length bytes ≡ 2 * 2 ^ n
-unfolding order_fault
-bytes_long n bytes none =
-    let exponent = next (not (good_exponent n)) Exponent _ none in
-    let size = next (not (eqb (length bytes) (2 * 2 ^ n))) Length _ exponent.1 in
-    eqb-true (length bytes) (2 * 2 ^ n) (not-false _ size.0)
-
 pub accepted_from : (n : ℕ) (bytes : List ℕ) → order_fault n bytes ≡ None → Accepted n (ranks_of bytes)
-unfolding order_fault
 accepted_from n bytes none =
-    let exponent = next (not (good_exponent n)) Exponent _ none in
-    let good = and_parts _ _ (not-false (good_exponent n) exponent.0) in
-    let size = next (not (eqb (length bytes) (2 * 2 ^ n))) Length _ exponent.1 in
+    let good = good_from n bytes none in
     record {
-      low = leb-true 1 n good.0;
-      high = leb-true n 10 good.1;
-      long = length-ranks_of bytes (2 ^ n) (bytes_long n bytes none);
-      law = λ p within. none_fails (keeps_law n (ranks_of bytes)) 0 (2 ^ n) (kept n (ranks_of bytes) size.1) p (omega arith) (omega arith);
+      low = good.0;
+      high = good.1;
+      long = length-ranks_of bytes (2 ^ n) (long_from n bytes none);
+      law = λ p within. none_fails (keeps_law n (ranks_of bytes)) 0 (2 ^ n) (ranks_from n bytes none).1 p (omega arith) (omega arith);
     }
 
 -- what an order holds for as long as it exists
 pub accepted_by : (n : ℕ) (bytes : List ℕ) → is_some (order_fault n bytes) ≡ false → Accepted n (ranks_of bytes)
-accepted_by n bytes holds = accepted_from n bytes (none_from-is_some (order_fault n bytes) holds)
+accepted_by n bytes holds = accepted_from n bytes (none_from (order_fault n bytes) holds)
 
 -- the two bytes of a rank are there
 pub rank_place : (n : ℕ) (bytes : List ℕ) → is_some (order_fault n bytes) ≡ false → (p : ℕ) → p < 2 ^ n → (2 * p + 1 < length bytes) × (p < 2 ^ 10)
 rank_place n bytes holds p within =
-    let none = none_from-is_some (order_fault n bytes) holds in
+    let none = none_from (order_fault n bytes) holds in
     let most : 2 ^ n ≤ 2 ^ 10 = pow_mono (accepted_from n bytes none).high in
-    (omega (arith, bytes_long n bytes none), omega arith)
+    (omega (arith, long_from n bytes none), omega arith)
 
 -- of the exchanges below bit m, one
 exchange_at : (ranks : List ℕ) (p m : ℕ) → exchanges_keep ranks p m ≡ true → (b : ℕ) → b < m → exchange_keeps ranks p b ≡ true

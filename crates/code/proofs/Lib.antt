@@ -1,6 +1,7 @@
 pub mod Accepted
 pub mod Counted
 pub mod Encodings
+pub mod Exponents
 pub mod Fresh
 pub mod KindPatterns
 pub mod LawfulSpans
@@ -12,6 +13,7 @@ pub mod Moves
 pub mod Questions
 pub mod Rows
 pub mod Sames
+pub mod Searched
 pub mod SpanLaw
 pub mod SpanTests
 pub mod Transforms

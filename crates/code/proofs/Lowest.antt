@@ -3,10 +3,10 @@ use Rattle.std.proofs.Common.{◌≡◌, ℕ, zero, suc, ◌+◌, ◌-◌, ◌<�
 use Rattle.std.proofs.lemmas.Bool.{cases_eq}
 use Rattle.code.specs.Spans.{lowest_no}
 
-lowest_true : (test : ℕ → Bool) (at count : ℕ) → test at ≡ true → lowest_no test at (suc count) ≡ lowest_no test (suc at) count
+pub lowest_true : (test : ℕ → Bool) (at count : ℕ) → test at ≡ true → lowest_no test at (suc count) ≡ lowest_no test (suc at) count
 lowest_true test at count h = rw h
 
-lowest_false : (test : ℕ → Bool) (at count : ℕ) → test at ≡ false → lowest_no test at (suc count) ≡ Some at
+pub lowest_false : (test : ℕ → Bool) (at count : ℕ) → test at ≡ false → lowest_no test at (suc count) ≡ Some at
 lowest_false test at count h = rw h
 
 left : (at total : ℕ) → at < total → total - at ≡ suc (total - (at + 1))
@@ -25,12 +25,6 @@ lowest_more test total at lt h inv =
 pub lowest_found : (test : ℕ → Bool) (total at : ℕ) → at < total → test at ≡ false → lowest_no test 0 total ≡ lowest_no test at (total - at) → Some at ≡ lowest_no test 0 total
 lowest_found test total at lt h inv =
     sym (inv ∙ ap (lowest_no test at) (left at total lt) ∙ lowest_false test at (total - (at + 1)) h)
-
--- the pass has come to the end
-pub lowest_all : (test : ℕ → Bool) (total at : ℕ) → total ≤ at → lowest_no test 0 total ≡ lowest_no test at (total - at) → None ≡ lowest_no test 0 total
-lowest_all test total at le inv =
-    let e : total - at ≡ 0 = omega arith in
-    sym (inv ∙ ap (lowest_no test at) e)
 
 -- where none fails, each passes
 pub none_fails : (test : ℕ → Bool) (at count : ℕ) → lowest_no test at count ≡ None → (p : ℕ) → at ≤ p → p < at + count → test p ≡ true

@@ -1,11 +1,11 @@
 -- What the questions about a list of marks tell of it. Assumes nothing.
-use Rattle.std.proofs.Common.{◌≡◌, ℕ, ◌^◌, ◌≤◌, Bool, true, false, cond, eqb, leb, List, length, get_or, is_some, is_ok, Some, None, Ok, Err, Option, sym, refl, ap, ◌∙◌, ⊎_elim, arith}
+use Rattle.std.proofs.Common.{◌≡◌, ℕ, ◌^◌, ◌≤◌, Bool, true, false, eqb, leb, List, length, get_or, is_some, Some, None, Option, sym, refl, ap, ◌∙◌, ⊎_elim, arith}
 use Rattle.std.specs.Option.{option_map}
 use Rattle.std.proofs.lemmas.List.{get_or_past}
-use Rattle.std.proofs.lemmas.Bool.{eq-eqb, ne_eqb, eqb-true, eqb-false, true≢false, false≢true, lt-ltb, leb-true, and_parts, cases_lt}
+use Rattle.std.proofs.lemmas.Bool.{eq-eqb, ne_eqb, eqb-true, eqb-false, true≢false, leb-true, and_parts, cases_lt}
 use Rattle.code.specs.declared.faults.MapFault.{MapFault}
-use Rattle.code.specs.declared.faults.MapFault.TheVariants.{Exponent, Length, Bit, Outside}
-use Rattle.code.specs.Spans.{good_exponent, lowest_no, is_bit, listed_fault, mark_of, mark_answer, Means}
+use Rattle.code.specs.declared.faults.MapFault.TheVariants.{Exponent, Length, Bit}
+use Rattle.code.specs.Spans.{good_exponent, lowest_no, is_bit, listed_fault, Means}
 use Rattle.code.proofs.Lowest.{none_fails}
 
 abbrev pub bits_of : List ℕ → Option ℕ
@@ -59,11 +59,3 @@ listed_means n bytes accepted = by_exponent (good_exponent n) refl
     by_exponent : (b : Bool) → good_exponent n ≡ b → Means n bytes
     by_exponent true good = by_length good (eqb (length bytes) (2 ^ n)) refl
     by_exponent false bad = refuse (bad_exponent n bytes bad)
-
--- a position that is refused carries no bit
-pub mark_refused : (marks : List ℕ) (p : ℕ) (f : MapFault) → Err f ≡ mark_answer marks p → false ≡ eqb (get_or marks p 0) 1
-mark_refused marks p f answered =
-    ⊎_elim
-    (λ h. absurd (false≢true (ap is_ok (answered ∙ ap (λ b. cond b (Ok (mark_of (get_or marks p 0))) (Err Outside)) (lt-ltb p (length marks) h)))))
-    (λ h. sym (ap (λ m. eqb m 1) (get_or_past marks p 0 h)))
-    (cases_lt p (length marks))

@@ -1,9 +1,9 @@
 -- Moves by arithmetic: the law in words of bits is the law as it is tested.
-use Rattle.std.proofs.Common.{◌≡◌, ℕ, zero, suc, ◌+◌, ◌-◌, ◌*◌, ◌/◌, ◌%◌, ◌^◌, ◌<◌, ◌≤◌, Bool, true, false, cond, eqb, List, get_or, sym, refl, ap, ◌∙◌, subst, inl, inr, ⊎_elim, mul-le-mul_right, add-mul, one-mul, div-mul-le_self, div-one, add-one, arith, pow_mono}
+use Rattle.std.proofs.Common.{◌≡◌, ℕ, zero, suc, ◌+◌, ◌-◌, ◌*◌, ◌/◌, ◌%◌, ◌^◌, ◌<◌, ◌≤◌, Bool, true, false, cond, eqb, List, get_or, sym, refl, ap, ◌∙◌, subst, inl, inr, ⊎_elim, mul-le-mul_right, add-mul, one-mul, div-mul-le_self, div-one, arith, pow_mono}
 use native.Mathlib.Nat.{mod-le}
 use lib.Arith.{digits_lt}
 use Rattle.std.proofs.lemmas.Nat.{pow_pos, pow-add, shr-shr, shr_below, div_below, div-add-mod', mod_below, mod-pow-add}
-use Rattle.std.proofs.lemmas.Bool.{cases_lt, cases_Bool, cases_eq, both_ways, and_parts, and_from, cond_both, cond-true, ltb-true, lt-ltb, eq-eqb, eqb-true}
+use Rattle.std.proofs.lemmas.Bool.{cases_lt, cases_eq, and_parts, and_from, cond_both, cond-true, ltb-true, lt-ltb, eq-eqb, eqb-true}
 use Rattle.code.specs.Orders.{bit_at, KeepsLaw, exchange_keeps, exchanges_keep, setting_keeps, keeps_law, LawAsTested}
 
 two_pow_more : (b : ℕ) → 2 ^ (b + 1) ≡ 2 * 2 ^ b
@@ -73,13 +73,6 @@ pub exchanges_from : (ranks : List ℕ) (p k : ℕ) → ((b : ℕ) → b < k →
 exchanges_from ranks p zero each = refl
 exchanges_from ranks p (suc k) each =
     and_from (exchanges_keep ranks p k) (exchange_keeps ranks p k) (exchanges_from ranks p k (λ b lt. each b (omega arith))) (each k (omega arith))
-
-pub exchanges_more : (ranks : List ℕ) (p k : ℕ) → exchanges_keep ranks p k ≡ true → exchange_keeps ranks p k ≡ true → exchanges_keep ranks p (k + 1) ≡ true
-exchanges_more ranks p k h e = rw add-one (and_from (exchanges_keep ranks p k) (exchange_keeps ranks p k) h e)
-
-pub exchanges_breach : (ranks : List ℕ) (p k b : ℕ) → b < k → exchange_keeps ranks p b ≡ false → exchanges_keep ranks p k ≡ false
-exchanges_breach ranks p k b lt e =
-    ⊎_elim (λ h. absurd (both_ways (exchange_keeps ranks p b) e (exchanges_at ranks p k b h lt))) (λ h. h) (cases_Bool (exchanges_keep ranks p k))
 
 -- a test that is made where a number is what it should be, and holds
 made : (a b : ℕ) (t : Bool) → a ≡ b → cond (eqb a b) t true ≡ true → t ≡ true

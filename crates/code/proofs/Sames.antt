@@ -1,7 +1,6 @@
 -- Rows of marks compared with a pattern. Assumes nothing.
-use Rattle.std.proofs.Common.{◌≡◌, ℕ, suc, ◌+◌, ◌-◌, ◌<◌, ◌≤◌, Bool, true, false, cond, ◌&&◌, eqb, List, [], ◌∷◌, ◌++◌, length, get_or, take, drop, replicate, Some, None, sym, refl, ap, ◌∙◌, arith}
-use Rattle.std.proofs.lemmas.List.{length-append, length-replicate, at_drop_more, at_drop_all, take_all, take_more, take_rest, drop_more, nil_from_length}
-use Rattle.std.proofs.lemmas.Bool.{eq-eqb, ne_eqb}
+use Rattle.std.proofs.Common.{◌≡◌, ℕ, suc, ◌+◌, ◌-◌, ◌<◌, ◌≤◌, Bool, true, false, cond, ◌&&◌, eqb, List, [], ◌∷◌, ◌++◌, length, get_or, take, replicate, Some, None, sym, refl, ap, ◌∙◌, arith}
+use Rattle.std.proofs.lemmas.List.{length-append, length-replicate, take_all, take_more}
 use Rattle.code.specs.declared.kinds.SpanKind.TheVariants.{Rate0, Rate1, Rep, Spc}
 use Rattle.code.specs.Spans.{same, pattern, kind_of}
 
@@ -24,20 +23,6 @@ same_push [] (y ∷ ys) a b e = let h : ⊥ = omega arith in absurd h
 same_push (x ∷ xs) [] a b e = let h : ⊥ = omega arith in absurd h
 same_push (x ∷ xs) (y ∷ ys) a b e =
     ap (λ t. eqb x y && t) (same_push xs ys a b (let h : length xs ≡ length ys = omega arith in h)) ∙ sym (and_assoc (eqb x y) (same xs ys) (eqb a b))
-
-module _ (v : ℕ) (row : List ℕ) (i : ℕ) (within : i < length row) where
-  pub all_are_on : get_or row i 0 ≡ v → all_are v (drop i row) ≡ all_are v (drop (i + 1) row)
-  all_are_on here =
-      at_drop_more (all_are v) row i 0 within
-      ∙ ap (λ b. b && all_are v (drop (i + 1) row)) (eq-eqb (get_or row i 0) v here)
-
-  pub all_are_not : (get_or row i 0 ≡ v → ⊥) → all_are v (drop i row) ≡ false
-  all_are_not other =
-      at_drop_more (all_are v) row i 0 within
-      ∙ ap (λ b. b && all_are v (drop (i + 1) row)) (ne_eqb (get_or row i 0) v other)
-
-pub all_are_end : (v : ℕ) (row : List ℕ) (i : ℕ) → length row ≤ i → all_are v (drop i row) ≡ true
-all_are_end v row i h = at_drop_all (all_are v) row i h
 
 -- a row that ends in `last` has the pattern of a repetition
 pub rep_same : (front : List ℕ) (last : ℕ) →
@@ -63,20 +48,6 @@ rep_row row k some is =
     sym (take_all (length row - 1 + 1) row all) ∙ take_more row (length row - 1) 0 (omega arith)
     ∙ ap (λ j. take j row ++ (last ∷ [])) (sym is) in
     ap (λ r. same r (pattern Rep (length r))) split ∙ rep_same (take k row) last
-
-pub spc_row : (row : List ℕ) → 0 < length row →
-    same row (pattern Spc (length row)) ≡ (eqb (get_or row 0 0) 0 && all_are 1 (take (length row - 1) (drop 1 row)))
-spc_row row some =
-    let split : row ≡ get_or row 0 0 ∷ drop 1 row = drop_more row 0 0 some in
-    let rest : take (length row - 1) (drop 1 row) ≡ drop 1 row = take_rest row 1 in
-    ap (λ r. same r (pattern Spc (length r))) split ∙ spc_same (get_or row 0 0) (drop 1 row)
-    ∙ ap (λ r. eqb (get_or row 0 0) 0 && all_are 1 r) (sym rest)
-
-pub rep_none : (row : List ℕ) → length row < 1 → same row (pattern Rep (length row)) ≡ false
-rep_none row none = ap (λ r. same r (pattern Rep (length r))) (nil_from_length row (omega arith))
-
-pub spc_none : (row : List ℕ) → length row < 1 → same row (pattern Spc (length row)) ≡ false
-spc_none row none = ap (λ r. same r (pattern Spc (length r))) (nil_from_length row (omega arith))
 
 -- the first kind that fits, from what each pattern was found to be
 pub fitted : (row : List ℕ) (zeros ones rep spc : Bool) →

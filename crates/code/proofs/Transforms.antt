@@ -1,9 +1,8 @@
 -- Laws of the transform. Assumes nothing.
-use Rattle.std.proofs.Common.{◌≡◌, ℕ, zero, suc, ◌+◌, ◌-◌, ◌^◌, ◌<◌, ◌≤◌, List, [], ◌∷◌, ◌++◌, length, get_or, take, drop, sym, refl, ap, ◌∙◌, ap₂, ⊎_elim, arith, take-append-drop}
+use Rattle.std.proofs.Common.{◌≡◌, ℕ, zero, suc, ◌^◌, ◌<◌, ◌≤◌, List, [], ◌∷◌, ◌++◌, length, get_or, take, drop, sym, refl, ap, ◌∙◌, ap₂, arith, take-append-drop}
 use native.Mathlib.Nat.{two-pow-succ}
-use Rattle.std.proofs.lemmas.Bool.{cases_lt}
 use lib.Bits.{bit_xor, xor_assoc, xor_comm, xor_self, xor_zero_r}
-use Rattle.std.proofs.lemmas.List.{length-take, length-drop, length-append, take_at, drop_at, get_or_append_left, get_or-append_right, get_or-take, get_or-drop, ext_get_or}
+use Rattle.std.proofs.lemmas.List.{length-take, length-drop, length-append, take_at, drop_at}
 use Rattle.code.specs.Transform.{xor_row, join_halves, transform, KeepsLength, UndoesItself}
 
 pub length-xor_row : (xs ys : List ℕ) → length xs ≡ length ys → length (xor_row xs ys) ≡ length xs
@@ -66,15 +65,12 @@ xor_row-swap (x ∷ a) (y ∷ b) [] d = refl
 xor_row-swap (x ∷ a) (y ∷ b) (z ∷ c) [] = refl
 xor_row-swap (x ∷ a) (y ∷ b) (z ∷ c) (w ∷ d) = ap₂ (λ k rest. k ∷ rest) (xor_swap x y z w) (xor_row-swap a b c d)
 
-pub two_pow_suc : (e : ℕ) → 2 ^ suc e ≡ 2 ^ e + 2 ^ e
-two_pow_suc e = two-pow-succ e
-
 module _ (e : ℕ) (bits : List ℕ) (long : length bits ≡ 2 ^ suc e) where
   pub left_length : length (take (2 ^ e) bits) ≡ 2 ^ e
-  left_length = simp length-take (omega (arith, two_pow_suc e))
+  left_length = simp length-take (omega (arith, two-pow-succ e))
 
   pub right_length : length (drop (2 ^ e) bits) ≡ 2 ^ e
-  right_length = simp length-drop (omega (arith, two_pow_suc e))
+  right_length = simp length-drop (omega (arith, two-pow-succ e))
 
 pub keeps_length : KeepsLength
 unfolding transform
@@ -85,7 +81,7 @@ keeps_length (suc e) bits long =
     let hl : length l ≡ 2 ^ e = keeps_length e (take (2 ^ e) bits) (left_length e bits long) in
     let hr : length r ≡ 2 ^ e = keeps_length e (drop (2 ^ e) bits) (right_length e bits long) in
     let hx : length (xor_row l r) ≡ length l = length-xor_row l r (hl ∙ sym hr) in
-    length-append (xor_row l r) r ∙ omega (arith, two_pow_suc e)
+    length-append (xor_row l r) r ∙ omega (arith, two-pow-succ e)
 
 -- the transform of an XOR is the XOR of the transforms
 pub transform-xor_row : (e : ℕ) (xs ys : List ℕ) → length xs ≡ 2 ^ e → length ys ≡ 2 ^ e →
@@ -131,21 +127,11 @@ undoes_itself (suc e) bits long =
     ∙ take-append-drop (2 ^ e) bits
 
 -- what XORing the right half onto the left half leaves, place by place
-pub halves_xored : (half : ℕ) (old new : List ℕ) → length old ≡ half + half → length new ≡ length old →
-    ((k : ℕ) → k < half → get_or new k 0 ≡ bit_xor (get_or old k 0) (get_or old (half + k) 0)) →
-    ((k : ℕ) → half ≤ k → get_or new k 0 ≡ get_or old k 0) →
-    new ≡ join_halves (take half old) (drop half old)
-halves_xored half old new long kept left right =
-    let lt : length (take half old) ≡ half = simp length-take (omega arith) in
-    let ld : length (drop half old) ≡ half = simp length-drop (omega arith) in
-    let lx : length (xor_row (take half old) (drop half old)) ≡ half = length-xor_row (take half old) (drop half old) (lt ∙ sym ld) ∙ lt in
-    ext_get_or 0 new (join_halves (take half old) (drop half old))
-    (simp length-append (omega arith))
-    (λ k h. ⊎_elim
-    (λ b. left k b ∙ sym (get_or_append_left (xor_row (take half old) (drop half old)) (drop half old) 0 k (omega arith)
-    ∙ get_or-xor_row (take half old) (drop half old) k (lt ∙ sym ld)
-    ∙ ap₂ bit_xor (get_or-take half old k 0 b) (get_or-drop half old k 0)))
-    (λ b. let at : half + (k - half) ≡ k = omega arith in
-    right k b ∙ sym (get_or-append_right (xor_row (take half old) (drop half old)) (drop half old) half k 0 lx b
-    ∙ get_or-drop half old (k - half) 0 ∙ ap (λ j. get_or old j 0) at))
-    (cases_lt k half))
+pub xored : (l r new : List ℕ) → length l ≤ length r → length new ≡ length l →
+    ((k : ℕ) → k < length l → get_or new k 0 ≡ bit_xor (get_or l k 0) (get_or r k 0)) → new ≡ xor_row l r
+xored [] r [] le long each = refl
+xored [] r (n ∷ new) le long each = absurd (omega arith)
+xored (x ∷ l) [] new le long each = absurd (omega arith)
+xored (x ∷ l) (y ∷ r) [] le long each = absurd (omega arith)
+xored (x ∷ l) (y ∷ r) (n ∷ new) le long each =
+    ap₂ (λ a row. a ∷ row) (each 0 (omega arith)) (xored l r new (omega arith) (omega arith) (λ k h. each (suc k) (omega arith)))

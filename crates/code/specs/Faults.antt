@@ -28,3 +28,8 @@ answer_to (Some f) = Err f
 abbrev pub in_force : {X : Type 0} → Option MapFault → X → X → X
 in_force None new old = new
 in_force (Some f) new old = old
+
+-- the answer alone of a call that makes something
+abbrev pub outcome : {X : Type 0} → Result X MapFault → Result (Unit {0}) MapFault
+outcome (Ok x) = Ok tt
+outcome (Err f) = Err f

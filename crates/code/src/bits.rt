@@ -3,13 +3,9 @@ ghost use Rattle.std.specs.Prelude.{◌≡◌, length, slice_index};
 ghost use Rattle.code.specs.Spans.{lowest_no, is_bit};
 
 // The lowest place at which a byte is neither 0 nor 1.
+// Kept as bytes: the rows are the caller's, where any byte may stand.
 pub(crate) fn lowest_non_bit(bytes: &[u8]) -> Option<usize>
     ensures { result ≡ lowest_no (λ p. is_bit (slice_index bytes.now p)) 0 (length bytes.now) }
 {
-    for (i, b) in bytes.iter().enumerate() {
-        if *b > 1 {
-            return Some(i);
-        }
-    }
-    None
+    bytes.iter().position(|b| *b > 1)
 }

@@ -1,6 +1,6 @@
-// Making a ranked map, and choosing another in its place.
-ghost use Rattle.std.specs.Prelude.{◌≡◌, Ok};
-ghost use Rattle.code.specs.Faults.{answer_to, in_force};
+// Making a ranked map.
+ghost use Rattle.std.specs.Prelude.{◌≡◌, Ok, IfOk};
+ghost use Rattle.code.specs.Faults.{answer_to, outcome};
 ghost use Rattle.code.specs.Orders.{count_fault, ranks_of, ranked_marks};
 ghost use Rattle.code.specs.Encode.{informed_count};
 
@@ -20,19 +20,18 @@ impl<'a> Ranked<'a> {
         Ranked { order, k: 0 }
     }
 
-    // Puts the map of this order and K in force, or leaves the one that is.
-    pub fn choose(&mut self, order: Order<'a>, k: u16) -> Result<(), MapFault>
-        ensures answer { result ≡ answer_to (count_fault order.entry.n k) }
-        ensures n { self.new.order.n ≡ in_force (count_fault order.entry.n k) order.entry.n self.old.order.n }
-        ensures ranks { self.new.order.ranks.now ≡ in_force (count_fault order.entry.n k) order.entry.ranks.now self.old.order.ranks.now }
-        ensures uncopied { self.new.order.ranks ≡ in_force (count_fault order.entry.n k) order.entry.ranks self.old.order.ranks }
-        ensures k { self.new.k ≡ in_force (count_fault order.entry.n k) k self.old.k }
-        ensures count { result ≡ Ok tt → informed_count (ranked_marks (ranks_of order.entry.ranks.now) k) ≡ k }
+    // The map of this order and K, or why K is refused.
+    pub fn choose(order: Order<'a>, k: u16) -> Result<Self, MapFault>
+        ensures answer { outcome result ≡ answer_to (count_fault order.entry.n k) }
+        ensures n { IfOk result (λ map. map.order.n ≡ order.entry.n) }
+        ensures ranks { IfOk result (λ map. map.order.ranks.now ≡ order.entry.ranks.now) }
+        ensures uncopied { IfOk result (λ map. map.order.ranks ≡ order.entry.ranks) }
+        ensures k { IfOk result (λ map. map.k ≡ k) }
+        ensures count { outcome result ≡ Ok tt → informed_count (ranked_marks (ranks_of order.entry.ranks.now) k) ≡ k }
     {
         order.stays_lawful();
-        if (k as usize) <= two_to(order.n) {
-            *self = Ranked { order, k };
-            Ok(())
+        if usize::from(k) <= two_to(order.n) {
+            Ok(Ranked { order, k })
         } else {
             Err(MapFault::Count)
         }

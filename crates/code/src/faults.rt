@@ -3,7 +3,8 @@ ghost use Rattle.std.specs.Prelude.{◌≡◌};
 ghost use Rattle.code.specs.Faults.{report_of};
 
 // A refusal as the user sees it: its number, the layer that asked, and the place.
-#[derive(Clone, Copy)]
+// Kept as numbers: they are what the lines of a session print. A refusal is an enum until it is reported.
+#[derive(Clone, Copy, Debug, PartialEq, Eq)]
 pub struct Report {
     pub number: u8,
     pub layer: u8,
@@ -11,7 +12,7 @@ pub struct Report {
 }
 
 // The first question about an order, a map or a message that was answered no.
-#[derive(Clone, Copy)]
+#[derive(Clone, Copy, Debug, PartialEq, Eq)]
 pub enum MapFault {
     // n is not from 1 to 10.
     Exponent,
@@ -31,11 +32,11 @@ pub enum MapFault {
     Buffer,
 }
 
-impl MapFault {
-    pub fn report(self) -> Report
-        ensures { result ≡ report_of self }
-    {
-        let (number, place) = match self {
+impl From<MapFault> for Report {
+    ghost from_gives = { λ fault r. r ≡ report_of fault };
+
+    fn from(fault: MapFault) -> Report {
+        let (number, place) = match fault {
             MapFault::Exponent => (1, 0),
             MapFault::Length => (2, 0),
             MapFault::Rank(at) => (3, at),

@@ -1,6 +1,6 @@
 // Reading a list of marks, and the map that it is.
-ghost use Rattle.std.specs.Prelude.{◌≡◌, [], ◌∷◌};
-ghost use Rattle.code.specs.Faults.{answer_to, in_force};
+ghost use Rattle.std.specs.Prelude.{◌≡◌, [], ◌∷◌, IfOk};
+ghost use Rattle.code.specs.Faults.{answer_to, outcome};
 ghost use Rattle.code.specs.Spans.{listed_fault};
 
 use crate::bits::lowest_non_bit;
@@ -9,18 +9,16 @@ use crate::kinds::{Mark, SpanKind};
 use crate::listed::Listed;
 use crate::map::Map;
 use crate::patterns::kind_of;
-use crate::sizes::{good_exponent, is_span, two_to};
+use crate::sizes::{is_span, positions};
 
 static NONE_INFORMED: [u8; 2] = [0, 0];
 
 // The first question about a list of marks that is answered no.
+// Kept as a match: what is found is the refusal, and `?` goes the other way.
 fn listed_fault(n: u8, bytes: &[u8]) -> Result<(), MapFault>
     ensures { result ≡ answer_to (listed_fault n bytes.now) }
 {
-    if !good_exponent(n) {
-        return Err(MapFault::Exponent);
-    }
-    if bytes.len() != two_to(n) {
+    if bytes.len() != positions(n)? {
         return Err(MapFault::Length);
     }
     match lowest_non_bit(bytes) {
@@ -30,7 +28,8 @@ fn listed_fault(n: u8, bytes: &[u8]) -> Result<(), MapFault>
 }
 
 impl<'a> Listed<'a> {
-    // The map that is in force before any is read: two positions, none informed.
+    // The smallest map that informs nothing: two positions.
+    // Kept beside the smallest order: each has its own type and its own bytes.
     pub fn smallest() -> Self
         ensures n { result.n ≡ 1 }
         ensures marks { result.marks.now ≡ 0 ∷ (0 ∷ []) }
@@ -41,15 +40,15 @@ impl<'a> Listed<'a> {
         }
     }
 
-    // Puts the map that these bytes list in the place of this one, or leaves this one as it is.
-    pub fn read(&mut self, n: u8, bytes: &'a [u8]) -> Result<(), MapFault>
-        ensures answer { result ≡ answer_to (listed_fault n bytes.now) }
-        ensures n { self.new.n ≡ in_force (listed_fault n bytes.now) n self.old.n }
-        ensures marks { self.new.marks.now ≡ in_force (listed_fault n bytes.now) bytes.now self.old.marks.now }
+    // The map that these bytes list, or why they are refused.
+    // Kept beside the order's: the questions differ, and what is promised of the value made.
+    pub fn read(n: u8, bytes: &'a [u8]) -> Result<Self, MapFault>
+        ensures answer { outcome result ≡ answer_to (listed_fault n bytes.now) }
+        ensures n { IfOk result (λ map. map.n ≡ n) }
+        ensures marks { IfOk result (λ map. map.marks.now ≡ bytes.now) }
     {
         listed_fault(n, bytes)?;
-        *self = Listed { n, marks: bytes };
-        Ok(())
+        Ok(Listed { n, marks: bytes })
     }
 }
 
@@ -63,21 +62,16 @@ impl<'a> Map for Listed<'a> {
     }
 
     fn mark(&self, position: usize) -> Result<Mark, MapFault> {
-        let marks = self.marks;
-        if position >= marks.len() {
-            return Err(MapFault::Outside);
-        }
-        if marks[position] == 1 {
-            Ok(Mark::Informed)
-        } else {
-            Ok(Mark::Frozen)
-        }
+        // Kept beside the ranked map's, and as a byte: the mark is read where the caller has it.
+        let mark = self.marks.get(position).ok_or(MapFault::Outside)?;
+        Ok(Mark::from(*mark == 1))
     }
 
     fn kind(&self, start: usize, length: usize) -> Result<Option<SpanKind>, MapFault> {
         if !is_span(self.n, start, length) {
             return Err(MapFault::Outside);
         }
+        // Kept beside the ranked map's: that one looks at four marks, this one at all.
         let marks = self.marks;
         Ok(kind_of(&marks[start..start + length]))
     }

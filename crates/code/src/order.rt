@@ -3,6 +3,7 @@ ghost use Rattle.std.specs.Prelude.{◌≡◌, false, is_some};
 ghost use Rattle.code.specs.Orders.{order_fault};
 
 // The ranks stay where they were read, two bytes each, the high byte first. That they are accepted holds for as long as the order exists.
+// Kept with n beside them, and beside the listed map: n is told at each step, and what ties it to the bytes is each one's own ghost field.
 #[derive(Clone, Copy)]
 pub struct Order<'a> {
     pub(crate) n: u8,

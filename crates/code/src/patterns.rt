@@ -9,41 +9,33 @@ use crate::kinds::SpanKind;
 fn is_constant(row: &[u8], value: u8) -> bool
     ensures { result ≡ same row.now (replicate (length row.now) value) }
 {
-    for mark in row {
-        if *mark != value {
-            return false;
-        }
-    }
-    true
+    row.iter().all(|mark| *mark == value)
 }
 
 // Is only the last mark informed?
+// Kept as bytes: the marks are the caller's.
 fn is_repetition(row: &[u8]) -> bool
     ensures { result ≡ same row.now (pattern Rep (length row.now)) }
 {
-    let [front @ .., last] = row else {
-        return false;
-    };
-    if *last != 1 {
-        return false;
+    match row {
+        [front @ .., last] => *last == 1 && is_constant(front, 0),
+        [] => false,
     }
-    is_constant(front, 0)
 }
 
 // Is only the first mark frozen?
+// Kept as bytes: the marks are the caller's.
 fn is_single_parity(row: &[u8]) -> bool
     ensures { result ≡ same row.now (pattern Spc (length row.now)) }
 {
-    let [first, rest @ ..] = row else {
-        return false;
-    };
-    if *first != 0 {
-        return false;
+    match row {
+        [first, rest @ ..] => *first == 0 && is_constant(rest, 1),
+        [] => false,
     }
-    is_constant(rest, 1)
 }
 
 // The first kind whose pattern the row has.
+// Kept as tests in a row: the order in which the kinds are tried is the rule.
 pub(crate) fn kind_of(row: &[u8]) -> Option<SpanKind>
     ensures { result ≡ kind_of row.now }
 {

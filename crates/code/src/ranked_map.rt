@@ -8,6 +8,7 @@ use crate::faults::MapFault;
 use crate::kinds::{Mark, SpanKind};
 use crate::map::Map;
 use crate::ranked::Ranked;
+use crate::ranks::rank_at;
 use crate::sizes::{is_span, two_to};
 
 impl<'a> Ranked<'a> {
@@ -16,12 +17,11 @@ impl<'a> Ranked<'a> {
         requires { position < 2 ^ self.now.order.n }
         ensures { result ≡ informed_at (ranked_marks (ranks_of self.now.order.ranks.now) self.now.k) position }
     {
-        let ranks = self.order.ranks;
-        let at = 2 * position;
-        u16::from_be_bytes([ranks[at], ranks[at + 1]]) < self.k
+        rank_at(self.order.ranks, position) < usize::from(self.k)
     }
 
     // The kind of a span. Where its first and last position differ it has two or more.
+    // Kept as tests in a row: each look is made only where those before leave the kind open.
     fn kind_by_looks(&self, start: usize, length: usize) -> Option<SpanKind>
         requires { is_span self.now.order.n start length ≡ true }
         ensures { result ≡ looks_at (ranked_marks (ranks_of self.now.order.ranks.now) self.now.k) start length }
@@ -53,14 +53,11 @@ impl<'a> Map for Ranked<'a> {
     }
 
     fn mark(&self, position: usize) -> Result<Mark, MapFault> {
+        // Kept beside the listed map's: there the mark is read, here a rank is compared.
         if position >= two_to(self.order.n) {
             return Err(MapFault::Outside);
         }
-        if self.informed(position) {
-            Ok(Mark::Informed)
-        } else {
-            Ok(Mark::Frozen)
-        }
+        Ok(Mark::from(self.informed(position)))
     }
 
     fn kind(&self, start: usize, length: usize) -> Result<Option<SpanKind>, MapFault> {

@@ -8,6 +8,17 @@ use crate::sizes::two_to;
 // The ranks of a code of the largest n, 2 ^ 10.
 const MOST: usize = 1024;
 
+// As many ranks as the n of a code asks for.
+// Kept with n beside the bytes: the ghost field ties them, and the law counts bits up to n.
+#[derive(Clone, Copy)]
+pub(crate) struct Ranks<'a> {
+    pub(crate) n: u8,
+    pub(crate) bytes: &'a [u8],
+    ghost some: { 1 ≤ n },
+    ghost small: { n ≤ 10 },
+    ghost long: { length bytes.now ≡ 2 * 2 ^ n },
+}
+
 // Where the rank of a position is written. There is nothing to run.
 fn rank_is_written(bytes: &[u8], position: usize)
     requires { 2 * position + 1 < length bytes.now }
@@ -15,6 +26,7 @@ fn rank_is_written(bytes: &[u8], position: usize)
 {}
 
 // The rank of a position.
+// Kept as an offset: the ranks lie in the caller's bytes, two to a position.
 pub(crate) fn rank_at(bytes: &[u8], position: usize) -> usize
     requires { 2 * position + 1 < length bytes.now }
     ensures { result ≡ slice_index (ranks_of bytes.now) position }
@@ -25,23 +37,32 @@ pub(crate) fn rank_at(bytes: &[u8], position: usize) -> usize
     usize::from(u16::from_be_bytes([high, low]))
 }
 
-// The lowest position whose rank is too large or stands before. One look at each rank: a table tells which were seen.
-pub(crate) fn lowest_bad_rank(n: u8, bytes: &[u8]) -> Option<usize>
-    requires small { n ≤ 10 }
-    requires long { length bytes.now ≡ 2 * 2 ^ n }
-    ensures { result ≡ lowest_no (fresh_rank (ranks_of bytes.now)) 0 (2 ^ n) }
-{
-    let count = two_to(n);
-    let mut seen = [false; MOST];
-    for p in 0..count {
-        let rank = rank_at(bytes, p);
-        if rank >= count {
-            return Some(p);
-        }
-        if seen[rank] {
-            return Some(p);
-        }
-        seen[rank] = true;
+impl<'a> Ranks<'a> {
+    // The rank of a position.
+    pub(crate) fn at(self, position: usize) -> usize
+        requires { position < 2 ^ self.n }
+        ensures { result ≡ slice_index (ranks_of self.entry.bytes.now) position }
+    {
+        rank_at(self.bytes, position)
     }
-    None
+
+    // The lowest position whose rank is too large or stands before. One look at each rank: a table tells which were seen.
+    // Kept as a loop, over a table of the largest size: nothing would be known of what a closure answered that changes the table, and nothing here allocates.
+    pub(crate) fn lowest_bad(self) -> Option<usize>
+        ensures { result ≡ lowest_no (fresh_rank (ranks_of self.entry.bytes.now)) 0 (2 ^ self.entry.n) }
+    {
+        let count = two_to(self.n);
+        let mut seen = [false; MOST];
+        for p in 0..count {
+            let rank = self.at(p);
+            if rank >= count {
+                return Some(p);
+            }
+            if seen[rank] {
+                return Some(p);
+            }
+            seen[rank] = true;
+        }
+        None
+    }
 }

@@ -1,13 +1,12 @@
 // Reading an order from bytes that somebody else holds, and what it answers.
-ghost use Rattle.std.specs.Prelude.{◌≡◌, ◌*◌, ◌^◌, false, [], ◌∷◌, length, is_some, None, Ok};
-ghost use Rattle.code.specs.Faults.{answer_to, in_force};
+ghost use Rattle.std.specs.Prelude.{◌≡◌, ◌*◌, ◌^◌, false, [], ◌∷◌, length, is_some, Ok, IfOk};
+ghost use Rattle.code.specs.Faults.{answer_to, outcome};
 ghost use Rattle.code.specs.Orders.{order_fault, ranks_of, rank_answer, Lawful};
 
 use crate::faults::MapFault;
-use crate::law::lowest_breach;
 use crate::order::Order;
-use crate::ranks::{lowest_bad_rank, rank_at};
-use crate::sizes::{good_exponent, two_to};
+use crate::ranks::{Ranks, rank_at};
+use crate::sizes::{positions, two_to};
 
 // Rank 1, then rank 0.
 static SMALLEST: [u8; 4] = [0, 1, 0, 0];
@@ -18,28 +17,28 @@ fn smallest_is_accepted()
 {}
 
 // The first question about an order that is answered no. There is none where the order is lawful, and only there.
-fn fault_of(n: u8, bytes: &[u8]) -> Option<MapFault>
-    ensures fault { result ≡ order_fault n bytes.now }
-    ensures lawful { result ≡ None → Lawful n (ranks_of bytes.now) }
-    ensures all { length bytes.now ≡ 2 * 2 ^ n → Lawful n (ranks_of bytes.now) → result ≡ None }
+// Kept as a test and a match: what is found is the refusal, and `?` goes the other way.
+fn order_fault(n: u8, bytes: &[u8]) -> Result<(), MapFault>
+    ensures answer { result ≡ answer_to (order_fault n bytes.now) }
+    ensures lawful { result ≡ Ok tt → Lawful n (ranks_of bytes.now) }
+    ensures all { length bytes.now ≡ 2 * 2 ^ n → Lawful n (ranks_of bytes.now) → result ≡ Ok tt }
 {
-    if !good_exponent(n) {
-        return Some(MapFault::Exponent);
+    if bytes.len() != 2 * positions(n)? {
+        return Err(MapFault::Length);
     }
-    if bytes.len() != 2 * two_to(n) {
-        return Some(MapFault::Length);
+    let ranks = Ranks { n, bytes };
+    if let Some(p) = ranks.lowest_bad() {
+        return Err(MapFault::Rank(p));
     }
-    if let Some(p) = lowest_bad_rank(n, bytes) {
-        return Some(MapFault::Rank(p));
+    match ranks.lowest_breach() {
+        Some(p) => Err(MapFault::Law(p)),
+        None => Ok(()),
     }
-    if let Some(p) = lowest_breach(n, bytes) {
-        return Some(MapFault::Law(p));
-    }
-    None
 }
 
 impl<'a> Order<'a> {
-    // The order that is in force before any is read: two positions, the second the more reliable.
+    // The smallest order: two positions, the second the more reliable.
+    // Kept beside the smallest listed map: each has its own type and its own bytes.
     pub fn smallest() -> Self
         ensures n { result.n ≡ 1 }
         ensures ranks { result.ranks.now ≡ 0 ∷ 1 ∷ 0 ∷ 0 ∷ [] }
@@ -51,20 +50,18 @@ impl<'a> Order<'a> {
         }
     }
 
-    // Puts the order in these bytes in force, or leaves the one that is.
-    pub fn read(&mut self, n: u8, bytes: &'a [u8]) -> Result<(), MapFault>
-        ensures answer { result ≡ answer_to (order_fault n bytes.now) }
-        ensures n { self.new.n ≡ in_force (order_fault n bytes.now) n self.old.n }
-        ensures ranks { self.new.ranks.now ≡ in_force (order_fault n bytes.now) bytes.now self.old.ranks.now }
-        ensures uncopied { self.new.ranks ≡ in_force (order_fault n bytes.now) bytes.entry self.old.ranks }
-        ensures lawful { result ≡ Ok tt → Lawful n (ranks_of bytes.now) }
-        ensures all { length bytes.now ≡ 2 * 2 ^ n → Lawful n (ranks_of bytes.now) → result ≡ Ok tt }
+    // The order in these bytes, or why they are refused.
+    // Kept beside the listed map's: the questions differ, and what is promised of the value made.
+    pub fn read(n: u8, bytes: &'a [u8]) -> Result<Self, MapFault>
+        ensures answer { outcome result ≡ answer_to (order_fault n bytes.now) }
+        ensures n { IfOk result (λ order. order.n ≡ n) }
+        ensures ranks { IfOk result (λ order. order.ranks.now ≡ bytes.now) }
+        ensures uncopied { IfOk result (λ order. order.ranks ≡ bytes.entry) }
+        ensures lawful { outcome result ≡ Ok tt → Lawful n (ranks_of bytes.now) }
+        ensures all { length bytes.now ≡ 2 * 2 ^ n → Lawful n (ranks_of bytes.now) → outcome result ≡ Ok tt }
     {
-        if let Some(fault) = fault_of(n, bytes) {
-            return Err(fault);
-        }
-        *self = Order { n, ranks: bytes };
-        Ok(())
+        order_fault(n, bytes)?;
+        Ok(Order { n, ranks: bytes })
     }
 
     // What it means that the order was accepted. There is nothing to run.

@@ -1,8 +1,8 @@
 // What each of the receiver's calls does.
-ghost use Rattle.std.specs.Prelude.{◌≡◌, ◌+◌, ◌-◌, ◌^◌, ◌≤◌, ◌&&◌, cond, Some, None, min, T, length, take, Ok, Err};
+ghost use Rattle.std.specs.Prelude.{◌≡◌, ◌+◌, ◌-◌, ◌^◌, ◌≤◌, cond, Some, None, min, T, length, take, Ok, Err};
 ghost use Rattle.receiver.specs.Lent.{SameLoans};
 ghost use Rattle.receiver.specs.Admissions.{admitted, replied, in_force};
-ghost use Rattle.receiver.specs.Model.{caps_fault, right_buffers};
+ghost use Rattle.receiver.specs.Model.{caps_fault};
 ghost use Rattle.receiver.specs.Standings.{memory_fits, take_asked, TakesInHand, Advances};
 ghost use Rattle.receiver.specs.Words.{HandedOver, steps_kept, kept_after, answer_of};
 
@@ -15,7 +15,7 @@ use crate::memory::{Memory, Next, Step};
 use crate::pending::put_alone;
 use crate::receiver::Receiver;
 use crate::states::{Asked, State, admit};
-use code::encode::{informed_count, message_of, position_count};
+use code::encode::{message_of, position_count, right_lengths};
 use code::map::Map;
 use soft::soft::Soft;
 
@@ -28,13 +28,6 @@ fn enough_memory<M: Map, S>(map: &M, memory: &Memory<S>) -> Result<(), ReceiverF
         return Err(ReceiverFault::Memory);
     }
     Ok(())
-}
-
-// Have the message and the word a byte for each informed position and for each position?
-fn right_buffers<M: Map>(map: &M, message: usize, word: usize) -> bool
-    ensures { result ≡ right_buffers (M.Map.exponent map.now) (M.Map.marks map.now) message word }
-{
-    message == informed_count(map) && word == position_count(map)
 }
 
 // How many steps were made of the word in hand.
@@ -148,7 +141,7 @@ impl<M: Map + Copy, S: Soft + Copy> Receiver<M, S> {
         admit(self.state, Asked::Take)?;
         enough_memory(&self.map, memory)?;
         let size = position_count(&self.map);
-        if !right_buffers(&self.map, message.len(), word.len()) {
+        if !right_lengths(&self.map, message.len(), word.len()) {
             return Err(ReceiverFault::Length);
         }
         copy_front(memory, word, size);

@@ -6,7 +6,7 @@ ghost use Rattle.receiver.specs.declared.faults.ReceiverFault.TheVariants.{Map};
 use code::faults::{MapFault, Report};
 
 // The first question about a receiver's call that was answered no, or a map's fault, carried whole.
-#[derive(Clone, Copy)]
+#[derive(Clone, Copy, Debug, PartialEq, Eq)]
 pub enum ReceiverFault {
     Map(MapFault),
     // The bytes, or a buffer, have not the right length.
@@ -31,7 +31,7 @@ impl From<ReceiverFault> for Report {
 
     fn from(fault: ReceiverFault) -> Report {
         let (number, place) = match fault {
-            ReceiverFault::Map(fault) => return fault.report(),
+            ReceiverFault::Map(fault) => return Report::from(fault),
             ReceiverFault::Length => (8, 0),
             ReceiverFault::Memory => (9, 0),
             ReceiverFault::WordInHand => (10, 0),

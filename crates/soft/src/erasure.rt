@@ -4,6 +4,7 @@ ghost use Rattle.soft.specs.Erasure.{erasure, erasure_laws};
 use crate::soft::Soft;
 
 // `true` is sign 1.
+// Kept as a sign beside a size, and beside whole numbers: a soft number has both, also at size zero, and the two sizes are of two types.
 #[derive(Clone, Copy)]
 pub struct Erasure {
     pub sign: bool,
@@ -23,6 +24,7 @@ impl Soft for Erasure {
         u32::from(self.size)
     }
 
+    // Kept beside that of whole numbers: the integer types have no trait with `abs_diff`, and the sizes of joins differ.
     fn check(self, other: Erasure) -> Erasure {
         Erasure {
             sign: self.sign ^ other.sign,
@@ -30,6 +32,7 @@ impl Soft for Erasure {
         }
     }
 
+    // Kept beside that of whole numbers, for the same reason; β is a bit.
     fn join(self, other: Erasure, beta: bool) -> Erasure {
         let turned = self.sign ^ beta;
         // Both sizes are made first, so that choosing one takes no jump.
@@ -49,6 +52,7 @@ impl Soft for Erasure {
         Erasure { sign, size }
     }
 
+    // Kept as a match: these are the bytes of the format.
     fn read(byte: u8) -> Option<Erasure> {
         match byte {
             0x30 => Some(Erasure {
@@ -67,6 +71,7 @@ impl Soft for Erasure {
         }
     }
 
+    // Kept beside that of whole numbers: it makes another type.
     fn fill() -> Erasure {
         Erasure {
             sign: false,

@@ -21,6 +21,7 @@ pub trait Soft: Sized {
         ensures { result ≡ kind.check self other };
 
     // What is known of the second of two bits, whose XOR is `beta`.
+    // Kept as a bool: β is a bit.
     fn join(self, other: Self, beta: bool) -> Self
         ensures { result ≡ kind.join self other beta };
 

@@ -7,6 +7,7 @@ use crate::soft::Soft;
 const STOP: u32 = 130048;
 
 // `true` is sign 1.
+// Kept as a sign beside a size, and beside erasures: a soft number has both, also at size zero, and the two sizes are of two types.
 #[derive(Clone, Copy)]
 pub struct Whole {
     pub sign: bool,
@@ -26,6 +27,7 @@ impl Soft for Whole {
         self.size
     }
 
+    // Kept beside that of erasures: the integer types have no trait with `abs_diff`, and the sizes of joins differ.
     fn check(self, other: Whole) -> Whole {
         Whole {
             sign: self.sign ^ other.sign,
@@ -33,6 +35,7 @@ impl Soft for Whole {
         }
     }
 
+    // Kept beside that of erasures, for the same reason; β is a bit.
     fn join(self, other: Whole, beta: bool) -> Whole {
         let turned = self.sign ^ beta;
         // Both sizes are made first, so that choosing one takes no jump.
@@ -59,6 +62,7 @@ impl Soft for Whole {
         })
     }
 
+    // Kept beside that of erasures: it makes another type.
     fn fill() -> Whole {
         Whole {
             sign: false,

@@ -1,9 +1,23 @@
-use Rattle.std.proofs.Common.{length, refl, arith}
-use Rattle.cancellation.proofs.Written.{rowed, joined}
+use Rattle.std.proofs.Common.{◌≡◌, ◌*◌, ◌++◌, length, sym, refl, ◌∙◌, ap, ap₂, arith}
+use Rattle.cancellation.specs.Rows.{join_row}
+use Rattle.cancellation.proofs.Written.{rowed, joined, left_long, rest_long, right_long, right_is, third_written}
 use Rattle.cancellation.proofs.rows.join_row.Goals as goal
 
 pub returns : goal.returns
 returns g c =
-    rowed _ _ _ _ (length c.args.left.now) (omega arith, refl) (λ h asked. omega arith)
-    (joined g.S.Soft.kind (length c.args.left.now) c.args.rows.now c.loop-i.rows (omega arith) c.loop-i.auto.rows
-    c.loop-i.invariant.0 c.args.left.now refl (λ k b. c.loop-i.invariant.1 k (omega arith)))
+    let kind = g.S.Soft.kind in
+    let rows = c.args.rows.now in
+    let left = c.split_at_mut-left.result.0.now in
+    let rest = c.split_at_mut-left.result.1.now in
+    let right = c.split_at_mut-right.result.0.now in
+    let h = length c.args.bits.now in
+    let long : length rows ≡ 3 * h = omega arith in
+    let l = c.split_at_mut-left.ensures.front in
+    let r = c.split_at_mut-left.ensures.back in
+    let rr = c.split_at_mut-right.ensures.front in
+    let ll : length left ≡ h = left_long h rows left rest right rest long l r rr in
+    let lr : length right ≡ h = right_long h rows left rest right rest long l r rr in
+    let room : length c.loop-i.room ≡ h = omega (arith, c.loop-i.auto.room, c.split_at_mut-right.ensures.back_len, rest_long h rows left rest right rest long l r rr) in
+    let made = joined kind left right c.loop-i.room c.args.bits.now (ll ∙ sym lr) ll (room ∙ sym ll) (λ k b. c.loop-i.invariant k (omega (arith, c.loop-i-test.false, c.loop-i.auto.room, room, ll))) in
+    rowed _ _ _ _ h (long, refl) (λ n asked. omega (arith, asked.1))
+    (ap (λ row. left ++ (right ++ row)) (made ∙ ap₂ (λ x y. join_row kind x y c.args.bits.now) l (right_is h rows left rest right rest long l r rr)) ∙ third_written h rows left rest right rest long l r rr _)

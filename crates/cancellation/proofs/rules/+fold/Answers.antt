@@ -1,14 +1,10 @@
-use Rattle.std.proofs.Common.{rules}
-use Rattle.cancellation.proofs.Folded.{whole_halves, front_long, folded_on}
+use Rattle.cancellation.proofs.Folded.{folded_alone, folded_on}
 use Rattle.cancellation.proofs.rules.+fold.Goals as goal
 
-pub fold_once-requires : goal.fold_once-requires
-fold_once-requires g t c = whole_halves g.S.Soft.kind c.args.e c.args.values.now c.if-e-eq0.false c.requires
-
-pub fold-requires : goal.fold-requires
-fold-requires g t c κs within =
-    (search rules, (search rules, front_long g.S.Soft.kind c.args.e c.args.values.now c.if-e-eq0.false c.requires c.fold_once.new.values c.fold_once.ensures))
+pub returns-then-half-eq0 : goal.returns-then-half-eq0
+returns-then-half-eq0 g t c = λ e long. folded_alone g.S.Soft.kind e c.args.values.now long c.if-half-eq0.true
 
 pub returns : goal.returns
 returns g t c =
-    folded_on g.S.Soft.kind c.args.e c.args.values.now c.if-e-eq0.false c.requires c.fold_once.new.values c.fold_once.ensures _ c.fold.ensures
+    λ e long. folded_on g.S.Soft.kind e c.args.values.now _ _ _ _ long c.if-half-eq0.false
+    c.split_at_mut-left.ensures.front c.split_at_mut-left.ensures.back c.join_onto.ensures c.fold.ensures

@@ -1,11 +1,11 @@
-use Rattle.std.proofs.Common.{◌∙◌}
+use Rattle.std.proofs.Common.{length, replicate, ◌∙◌, ap}
 use Rattle.cancellation.proofs.Folded.{repeated_front}
 use Rattle.cancellation.proofs.rules.repetition.Goals as goal
 
-pub returns : goal.returns
-returns g c = record {
+pub returns-in-Some : goal.returns-in-Some
+returns-in-Some g c = record {
   row = c.fold.ensures;
-  word = c.fill.ensures
-      ∙ repeated_front g.S.Soft.kind c.args.e _ c.args.values.now c.fold.new.values c.index-values-0.result c.sign-bit.result
-      c.requires.row c.fold.ensures c.index-values-0.is c.sign-bit.ensures c.requires.word;
+  word = λ e long. c.fill.ensures.after (λ y h. h) ∙ ap (replicate (length c.args.bits.now)) c.from.ensures
+      ∙ repeated_front g.S.Soft.kind e _ c.args.values.now c.fold.new.values c.in-Some.value.now c.sign.result
+      long (c.fold.ensures e long) c.in-Some.ensures.item.1 c.sign.ensures (c.requires ∙ long);
 }

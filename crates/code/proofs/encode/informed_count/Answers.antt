@@ -1,27 +1,16 @@
-use Rattle.std.proofs.Common.{◌≡◌, ◌<◌, ◌≤◌, length, drop, sym, arith}
-use Rattle.std.proofs.lemmas.List.{at_drop_all}
-use Rattle.std.proofs.lemmas.Bool.{eqb-true, eqb-false}
-use Rattle.code.specs.Encode.{informed_count}
-use Rattle.code.proofs.Laying.{count_informed, count_frozen}
+use Rattle.std.proofs.Common.{◌==◌, slice_index, ◌∙◌, arith, rules, tests}
+use Rattle.std.specs.List.{range_with_len}
+use Rattle.std.proofs.lemmas.Iterator.{YieldsList-from_range}
+use Rattle.std.proofs.lemmas.Iterator.Consumers.{YieldsList-from_filter, count_from_yields_List}
+use Rattle.std.proofs.lemmas.List.Sums.{length-filter}
+use Rattle.code.proofs.Searched.{counted}
 use Rattle.code.proofs.encode.informed_count.Goals as goal
-use Rattle.code.proofs.encode.informed_count.Goals.{then-is_informed, else-is_informed}
-
-pub loop-p-preserved : goal.loop-p-preserved
-loop-p-preserved g c =
-    let marks = g.M.Map.marks c.args.map.now in
-    let within : c.loop-p.p < length marks = omega (arith, c.position_count-size.ensures.marks, c.loop-p-test.true) in
-    elim c.if-is_informed.branch [
-      | then-is_informed w ↦
-          let h = count_informed marks c.loop-p.p within (eqb-true _ 1 (sym w.if-is_informed.ensures)) in
-          omega (arith, h, w.count-is, c.loop-p.invariant)
-      | else-is_informed w ↦
-          let h = count_frozen marks c.loop-p.p within (eqb-false _ 1 (sym w.if-is_informed.ensures)) in
-          omega (arith, h, w.count-is, c.loop-p.invariant)
-    ]
 
 pub returns : goal.returns
 returns g c =
     let marks = g.M.Map.marks c.args.map.now in
-    let done : length marks ≤ c.loop-p.p = omega (arith, c.position_count-size.ensures.marks, c.loop-p-test.false) in
-    let none : informed_count (drop c.loop-p.p marks) ≡ 0 = at_drop_all informed_count marks c.loop-p.p done in
-    omega (arith, none, c.loop-p.invariant.0)
+    let size = c.position_count.result in
+    count_from_yields_List c.filter.result _ c.count.ensures.ran
+    (YieldsList-from_filter _ (λ p. slice_index marks p == 1) (YieldsList-from_range 0 size size (search rules) (omega arith)) c.filter.ensures.closure (λ x b q k. search (rules, tests)))
+    ∙ length-filter (λ p. slice_index marks p == 1) (range_with_len 0 size)
+    ∙ counted marks size c.position_count.ensures.marks

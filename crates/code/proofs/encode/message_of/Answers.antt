@@ -2,26 +2,14 @@ use Rattle.std.proofs.Common.{◌≡◌, ◌^◌, length, sym, refl, ap, ◌∙�
 use Rattle.code.specs.Encode.{informed}
 use Rattle.code.specs.Faults.{answer_to, in_force}
 use Rattle.code.specs.Transform.{transform}
-use Rattle.code.proofs.Encodings.{message_wrong, word_wrong, both_right}
-use Rattle.code.proofs.Transforms.{undoes_itself}
+use Rattle.code.proofs.Encodings.{lengths_wrong, lengths_right, right_lengths}
+use Rattle.code.proofs.Transforms.{keeps_length, undoes_itself}
 use Rattle.code.proofs.encode.message_of.Goals as goal
 
-pub returns-then-message-informed_count : goal.returns-then-message-informed_count
-returns-then-message-informed_count g c =
+pub returns-then-not-right_lengths : goal.returns-then-not-right_lengths
+returns-then-not-right_lengths g c =
     let marks = g.M.Map.marks c.args.map.now in
-    let fault = message_wrong marks (length c.args.word.now) (length c.args.message.now) (λ e. c.if-message-informed_count.true (e ∙ sym c.informed_count.ensures)) in
-    record {
-      answer = sym (ap answer_to fault);
-      message = sym (ap (λ o. in_force o (informed marks (transform (g.M.Map.exponent c.args.map.now) c.args.word.now)) c.args.message.now) fault);
-      word = refl;
-    }
-
-pub returns-then-word-two_to : goal.returns-then-word-two_to
-returns-then-word-two_to g c =
-    let marks = g.M.Map.marks c.args.map.now in
-    let fault =
-    word_wrong marks (length c.args.word.now) (length c.args.message.now) (c.if-message-informed_count.false ∙ c.informed_count.ensures)
-    (λ e. c.if-word-two_to.true (e ∙ c.n-n.ensures.means.long ∙ sym c.two_to.ensures)) in
+    let fault = lengths_wrong marks (length c.args.word.now) (length c.args.message.now) (sym c.if-not-right_lengths.ensures.right) in
     record {
       answer = sym (ap answer_to fault);
       message = sym (ap (λ o. in_force o (informed marks (transform (g.M.Map.exponent c.args.map.now) c.args.word.now)) c.args.message.now) fault);
@@ -31,14 +19,14 @@ returns-then-word-two_to g c =
 pub returns : goal.returns
 returns g c =
     let marks = g.M.Map.marks c.args.map.now in
-    let n = c.n-n.result in
-    let long : length c.args.word.now ≡ 2 ^ n = c.if-word-two_to.false ∙ c.two_to.ensures in
-    let fault =
-    both_right marks (length c.args.word.now) (length c.args.message.now) (c.if-message-informed_count.false ∙ c.informed_count.ensures)
-    (long ∙ sym c.n-n.ensures.means.long) in
+    let n = g.M.Map.exponent c.args.map.now in
+    let right = sym c.if-not-right_lengths.ensures.right in
+    let long : length c.args.word.now ≡ 2 ^ n = (right_lengths marks (length c.args.message.now) (length c.args.word.now) right).1 ∙ c.right_lengths.ensures.whole in
+    let once = c.transform_row.ensures n long in
+    let fault = lengths_right marks (length c.args.word.now) (length c.args.message.now) right in
     record {
       answer = sym (ap answer_to fault);
-      message = c.gather.ensures ∙ ap (informed marks) (c.transform_row.ensures ∙ ap (λ k. transform k c.args.word.now) c.n-n.ensures.value)
-          ∙ sym (ap (λ o. in_force o (informed marks (transform (g.M.Map.exponent c.args.map.now) c.args.word.now)) c.args.message.now) fault);
-      word = c.transform_row-2.ensures ∙ ap (transform n) c.transform_row.ensures ∙ undoes_itself n c.args.word.now long;
+      message = c.gather.ensures ∙ ap (informed marks) once
+          ∙ sym (ap (λ o. in_force o (informed marks (transform n c.args.word.now)) c.args.message.now) fault);
+      word = c.transform_row-2.ensures n (ap length once ∙ keeps_length n c.args.word.now long) ∙ ap (transform n) once ∙ undoes_itself n c.args.word.now long;
     }

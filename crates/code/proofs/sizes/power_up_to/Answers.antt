@@ -1,14 +1,10 @@
-use Rattle.std.proofs.Common.{sym, ◌∙◌, arith}
-use Rattle.code.proofs.SpanTests.{power_here, power_lower, power_last}
+use Rattle.std.proofs.Common.{leb, ap, ◌∙◌, rules}
+use Rattle.code.proofs.SpanTests.{power_small, power_other}
 use Rattle.code.proofs.sizes.power_up_to.Goals as goal
 
-pub returns-then-length-two_to : goal.returns-then-length-two_to
-returns-then-length-two_to c =
-    power_here c.loop-e.e c.args.length (c.if-length-two_to.true ∙ c.two_to.ensures) ∙ sym c.loop-e.invariant.1
+pub returns-then-is_power_of_two : goal.returns-then-is_power_of_two
+returns-then-is_power_of_two c =
+    ap (leb c.args.length) c.two_to.ensures ∙ power_small c.args.n c.args.length (search rules)
 
-pub loop-e-preserved : goal.loop-e-preserved
-loop-e-preserved c =
-    (omega arith, c.loop-e.invariant.1 ∙ power_lower c.loop-e.e c.args.length c.loop-e-test.true (λ h. c.if-length-two_to.false (h ∙ sym c.two_to.ensures)))
-
-pub returns : goal.returns
-returns c = power_last c.loop-e.e c.args.length c.loop-e-test.false ∙ sym c.loop-e.invariant.1
+pub returns-else-is_power_of_two : goal.returns-else-is_power_of_two
+returns-else-is_power_of_two c = c.if-is_power_of_two.false ∙ power_other c.args.n c.args.length (search rules)

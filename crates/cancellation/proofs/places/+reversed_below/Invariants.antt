@@ -1,4 +1,0 @@
-use Rattle.cancellation.proofs.places.+reversed_below.Given as goal
-
-abbrev pub decreases-reversed_below : goal.decreases-reversed_below
-decreases-reversed_below l = l.e
