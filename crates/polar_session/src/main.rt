@@ -17,14 +17,8 @@ fn read_session(rt: &HostRuntime) -> io::Result<Vec<u8>> {
 // Where there is no such file, the shelf is empty; one that cannot be read is an error.
 fn read_shelf(rt: &HostRuntime) -> io::Result<Vec<u8>> {
     match fs::read(rt, "orders.shelf") {
-        Ok(shelf) => Ok(shelf),
-        Err(error) => {
-            if error.kind() == ErrorKind::NotFound {
-                Ok(Vec::new(rt.alloc()))
-            } else {
-                Err(error)
-            }
-        }
+        Err(error) if error.kind() == ErrorKind::NotFound => Ok(Vec::new(rt.alloc())),
+        shelf => shelf,
     }
 }
 
@@ -33,7 +27,7 @@ fn run(rt: &HostRuntime) -> anyhow::Result<()> {
     let shelf = read_shelf(rt)?;
     let text = transcript(rt.alloc(), session.as_slice(), shelf.as_slice())?;
     let mut out = rt.stdout();
-    out.write_all(text.as_slice())?;
+    out.write_all(text.as_bytes())?;
     out.flush()?;
     Ok(())
 }

@@ -1,154 +1,79 @@
--- What commands do to the state of a session, over plain values.
-use Rattle.std.proofs.Common.{◌≡◌, ℕ, Bool, true, false, List, [], ◌∷◌, ◌++◌, length, take, Some, None, Ok, Err, decimal, Option, Result, sym, refl, ap, ◌∙◌, subst, arith}
-use Rattle.std.proofs.lemmas.List.{take_at}
-use Rattle.code.specs.declared.faults.MapFault.{MapFault}
-use Rattle.code.specs.Encode.{informed_count, encode_fault, encoded}
-use Rattle.code.specs.Orders.{count_fault, ranks_of, ranked_marks}
-use Rattle.code.specs.Spans.{part}
-use Rattle.code.specs.Faults.{answer_to, in_force}
+-- What a call of the receiver does to the state of a session, over plain values.
+use Rattle.std.proofs.Common.{◌≡◌, ℕ, ◌^◌, ◌≤◌, Bool, true, List, [], ◌∷◌, length, Some, None, Ok, decimal, Option, Result, sym, refl, ap, ◌∙◌, subst}
+use Rattle.code.specs.Encode.{informed_count}
 use Rattle.soft.specs.Kind.{Kind}
 use Rattle.receiver.specs.declared.faults.ReceiverFault.{ReceiverFault}
-use Rattle.receiver.specs.declared.memory.Step.{Step}
-use Rattle.receiver.specs.Agreement.{Agrees}
-use Rattle.receiver.specs.Calls.{Call, called, remap, refused, done}
-use Rattle.receiver.specs.Model.{Model}
-use Rattle.session.specs.declared.faults.SessionFault.{SessionFault}
-use Rattle.session.specs.declared.faults.SessionFault.TheVariants as fault
+use Rattle.receiver.specs.declared.memory.Memory.{Memory}
+use Rattle.receiver.specs.declared.receiver.Receiver.{Receiver}
+use Rattle.receiver.specs.Agreement.{roomy}
+use Rattle.receiver.specs.Calls.{Call, Answer, called, outcome, done, remap, advance}
+use Rattle.receiver.specs.Histories.{plain, went_to}
+use Rattle.receiver.specs.Lent.{SameLoans}
+use Rattle.receiver.specs.Model.{Model, fresh, word_fault, worded}
+use Rattle.receiver.specs.Words.{word_door, TakenInHand, advance_door, Goes}
 use Rattle.session.specs.declared.chosen.Chosen.{Chosen}
-use Rattle.session.specs.declared.shelf.Record.{Record}
+use Rattle.session.specs.declared.faults.SessionFault.{SessionFault}
 use Rattle.session.specs.declared.state.State.{State}
 use Rattle.session.specs.Chosen.{exponent_of, marks_of}
-use Rattle.session.specs.Faults.{of_map}
-use Rattle.session.specs.Sessions.{InForce, refuse, told, chosen_in, choose, encoded_in, reply, called_in, do_call, do_order}
-use Rattle.session.specs.States.{Room, Stands, Did}
-use Rattle.session.specs.Text.{bits_text, message_text}
+use Rattle.session.specs.Sessions.{InForce, told, chosen_in, choose, called_in, do_call}
+use Rattle.session.specs.States.{Room, Agreed, AgreedIf, Stands, Did}
+use Rattle.session.proofs.Calling.{Answers, word_agreed, advance_agreed}
 
--- the receiver of a state, with its memory, is as a model says
-abbrev pub Agreed : {S : Type 0} → Kind S → Model S → State S → List S → List Step → List ℕ → Type 0
-Agreed kind m state soft steps row =
-    Agrees kind m (exponent_of state.receiver.map) (marks_of state.receiver.map) state.receiver.caps state.receiver.state soft steps row
+-- memory that was lent is as long as it was
+pub roomy_still : {S : Type 0} (memory memory' : Memory S) → Room memory → SameLoans memory memory' → Room memory'
+roomy_still memory memory' room same = record { soft_room = same.soft_long ∙ room.soft_room; step_room = same.pending_long ∙ room.step_room; bit_room = same.bits_long ∙ room.bit_room }
 
--- two states have the same order
-abbrev pub SameOrder : {S : Type 0} → State S → State S → Type 0
-SameOrder state state' = (state'.ordered ≡ state.ordered) × (state'.order ≡ state.order)
+module _ {S : Type 0} (kind : Kind S) (s : InForce S) (state : State S) (memory : Memory S) (r : Receiver Chosen S) (st : Stands kind s state memory) (is : state.receiver ≡ Some r) where
+  -- the receiver in force
+  record There : Type 0 where
+    pub model : Model S
+    pub model_is : s.receiver ≡ Some model
+    pub agrees : Agreed kind model r memory
 
-module _ {S : Type 0} (kind : Kind S) (s : InForce S) (state : State S) (soft : List S) (steps : List Step) (row : List ℕ) (st : Stands kind s state soft steps row) where
-  -- the receiver from the first map on
-  pub there : state.mapped ≡ true → s.receiver ≡ Some st.model
-  there h = rw h at st.receiver
+  there : There
+  there = go s.receiver refl (subst (λ o. AgreedIf kind s.receiver o memory) is st.receiver)
+    where
+      go : (o : Option (Model S)) → s.receiver ≡ o → AgreedIf kind o (Some r) memory → There
+      go None e h = absurd h
+      go (Some m) e h = record { model = m; model_is = e; agrees = h }
 
-  -- no receiver before it
-  pub lacking : state.mapped ≡ false → s.receiver ≡ None
-  lacking h = rw h at st.receiver
+  module _ (a : Result (List (List ℕ)) SessionFault) (answer : Answer) (r' : Receiver Chosen S) (memory' : Memory S) (room : Room memory') where
+    -- a call of the receiver
+    pub call_did : (at : ℕ) (more : List (List ℕ)) (asks : Model S → Call) → a ≡ told more answer →
+        ((m : Model S) → Agreed kind m r memory → Answers kind m r' memory' (asks m) answer) → Did kind (do_call kind at more asks s) a (record { order = state.order; receiver = Some r' }) memory'
+    call_did at more asks e h =
+        let k = h there.model there.agrees in
+        subst (λ (o : Option (Model S)). Did kind (called_in kind at more asks s o) a (record { order = state.order; receiver = Some r' }) memory') (sym there.model_is)
+        (record { answer = e ∙ ap (told more) k.0; after = record { order = st.order; receiver = k.1; room = room } })
 
-  -- a refusal leaves all
-  pub refused_did : (f : SessionFault) → Did kind (refuse f s) (Err f) state soft steps row
-  refused_did f = record { answer = refl; after = st }
+    -- a map that was made remaps it
+    pub map_did : (n : ℕ) (marks : List ℕ) → a ≡ told (decimal (informed_count marks) ∷ []) answer →
+        ((m : Model S) → Agreed kind m r memory → Answers kind m r' memory' (remap n marks) answer) → Did kind (choose kind None n marks s) a (record { order = state.order; receiver = Some r' }) memory'
+    map_did n marks e h =
+        let k = h there.model there.agrees in
+        subst (λ (o : Option (Model S)). Did kind (chosen_in kind n marks s o) a (record { order = state.order; receiver = Some r' }) memory') (sym there.model_is)
+        (record { answer = e ∙ ap (told (decimal (informed_count marks) ∷ [])) k.0; after = record { order = st.order; receiver = k.1; room = room } })
+    -- word and short word, of a length that `fits`
 
-  -- a call without a map
-  pub call_lacking : (at : ℕ) (more : List (List ℕ)) (asks : Model S → Call) → state.mapped ≡ false → Did kind (do_call kind at more asks s) (Err (fault.NoMap at)) state soft steps row
-  call_lacking at more asks h = subst (λ (o : Option (Model S)). Did kind (called_in kind at more asks s o) (Err (fault.NoMap at)) state soft steps row) (sym (lacking h)) (refused_did (fault.NoMap at))
+  module _ (a : Result (List (List ℕ)) SessionFault) (r' : Receiver Chosen S) (memory' : Memory S) (same : SameLoans memory memory') (rest : (r'.map ≡ r.map) × (r'.caps ≡ r.caps)) where
+    pub word_did : (at : ℕ) (fits : ℕ → ℕ → Bool) (bytes : List ℕ) (asks : Model S → Call) (answer : Result (Unit {0}) ReceiverFault) → a ≡ told [] (plain answer) →
+        ((m : Model S) → called kind (asks m) m ≡ outcome (word_fault kind m fits true bytes) done (worded kind bytes m) m) → ((n : ℕ) → fits n (length bytes) ≡ true → length bytes ≤ 2 ^ n) →
+        TakenInHand kind (exponent_of r.map) (word_door kind r.state (fits (exponent_of r.map) (length bytes)) (roomy (exponent_of r.map) memory.soft.now memory.pending.now memory.bits.now) bytes) bytes memory.soft.now memory'.soft.now memory.pending.now memory'.pending.now memory.bits.now memory'.bits.now r.state r'.state answer →
+        Did kind (do_call kind at [] asks s) a (record { order = state.order; receiver = Some r' }) memory'
+    word_did at fits bytes asks answer e is-so short taken =
+        call_did a (plain answer) r' memory' (roomy_still memory memory' st.room same) at [] asks e (λ m agrees. word_agreed kind m r r' memory memory' agrees fits bytes (asks m) answer st.room rest (is-so m) short taken)
 
-  -- the state with an order as before, and with a receiver
-  pub stands_with : (m : Model S) (state' : State S) (soft' : List S) (steps' : List Step) (row' : List ℕ) → state'.mapped ≡ true → SameOrder state state' →
-      Agreed kind m state' soft' steps' row' → Room soft' steps' row' → Stands kind (record { order = s.order; receiver = Some m }) state' soft' steps' row'
-  stands_with m state' soft' steps' row' mapped same a r = record {
-    model = m;
-    order = rw (same.0, same.1) st.order;
-    receiver = rw mapped;
-    new = λ no. let z : ◌≡◌ {A = Bool} true false = cc in let y : ◌≡◌ {A = ℕ} 0 1 = cc in absurd (omega arith);
-    agrees = a;
-    room = r;
-  }
+    pub advance_did : (at allowance : ℕ) (answer : Result (ℕ × Bool) ReceiverFault) → a ≡ told [] (went_to answer) →
+        Goes kind (exponent_of r.map) (marks_of r.map) r.caps allowance (advance_door r.state (roomy (exponent_of r.map) memory.soft.now memory.pending.now memory.bits.now)) r.state r'.state memory.soft.now memory.pending.now memory.bits.now memory'.soft.now memory'.pending.now memory'.bits.now answer →
+        Did kind (do_call kind at [] (λ m. advance true allowance) s) a (record { order = state.order; receiver = Some r' }) memory'
+    advance_did at allowance answer e goes =
+        call_did a (went_to answer) r' memory' (roomy_still memory memory' st.room same) at [] (λ m. advance true allowance) e (λ m agrees. advance_agreed kind m r r' memory memory' agrees allowance answer st.room rest goes)
 
-  -- a call of the receiver
-  pub call_did : (at : ℕ) (more : List (List ℕ)) (asks : Model S → Call) (r : Result (List (List ℕ)) SessionFault) (state' : State S) (soft' : List S) (steps' : List Step) (row' : List ℕ) →
-      state.mapped ≡ true → state'.mapped ≡ true → SameOrder state state' → Room soft' steps' row' →
-      r ≡ told more (called kind (asks st.model) st.model).answer →
-      Agreed kind (called kind (asks st.model) st.model).after state' soft' steps' row' → Did kind (do_call kind at more asks s) r state' soft' steps' row'
-  call_did at more asks r state' soft' steps' row' mapped mapped' same room e a =
-      subst (λ (o : Option (Model S)). Did kind (called_in kind at more asks s o) r state' soft' steps' row') (sym (there mapped)) (record { answer = e; after = stands_with _ state' soft' steps' row' mapped' same a room })
-
-  -- a map that was made is put in force
-  pub map_did : (n : ℕ) (marks : List ℕ) (state' : State S) (b : Bool) → state.mapped ≡ b → state'.mapped ≡ true → SameOrder state state' →
-      done ≡ (called kind (remap n marks) st.model).answer → Agreed kind (called kind (remap n marks) st.model).after state' soft steps row →
-      Did kind (choose kind None n marks s) (Ok (decimal (informed_count marks) ∷ [])) state' soft steps row
-  map_did n marks state' true mapped mapped' same e a =
-      subst (λ (o : Option (Model S)). Did kind (chosen_in kind n marks s o) (Ok (decimal (informed_count marks) ∷ [])) state' soft steps row) (sym (there mapped))
-      (record { answer = ap (told (decimal (informed_count marks) ∷ [])) e; after = stands_with _ state' soft steps row mapped' same a st.room })
-  map_did n marks state' false mapped mapped' same e a =
-      subst (λ (o : Option (Model S)). Did kind (chosen_in kind n marks s o) (Ok (decimal (informed_count marks) ∷ [])) state' soft steps row) (sym (lacking mapped))
-      (record { answer = refl; after = stands_with _ state' soft steps row mapped' same (subst (λ m. Agreed kind (called kind (remap n marks) m).after state' soft steps row) (st.new mapped) a) st.room })
-
-  -- a map that was made, while a word is in hand
-  pub map_refused : (n : ℕ) (marks : List ℕ) (state' : State S) (f : ReceiverFault) (b : Bool) → state.mapped ≡ b → state'.mapped ≡ b → SameOrder state state' →
-      refused f ≡ (called kind (remap n marks) st.model).answer → Agreed kind (called kind (remap n marks) st.model).after state' soft steps row →
-      Did kind (choose kind None n marks s) (Err (fault.Receiver f)) state' soft steps row
-  map_refused n marks state' f true mapped mapped' same e a =
-      subst (λ (o : Option (Model S)). Did kind (chosen_in kind n marks s o) (Err (fault.Receiver f)) state' soft steps row) (sym (there mapped))
-      (record { answer = ap (told (decimal (informed_count marks) ∷ [])) e; after = stands_with _ state' soft steps row mapped' same a st.room })
-  map_refused n marks state' f false mapped mapped' same e a =
-      let g : refused f ≡ done = e ∙ ap (λ m. (called kind (remap n marks) m).answer) (st.new mapped) in
-      let z : ◌≡◌ {A = ℕ} 0 1 = cc in absurd (omega arith)
-
-  -- a map whose questions found nothing
-  pub choose_did : (o : Option MapFault) (n n' old : ℕ) (marks marks' oldMarks : List ℕ) (r : Result (List (List ℕ)) SessionFault) (state' : State S) → Ok tt ≡ answer_to o →
-      n' ≡ in_force o n old → marks' ≡ in_force o marks oldMarks → Did kind (choose kind None n' marks' s) r state' soft steps row → Did kind (choose kind o n marks s) r state' soft steps row
-  choose_did None n n' old marks marks' oldMarks r state' e p q d = subst (λ x. Did kind (choose kind None x marks s) r state' soft steps row) p (subst (λ x. Did kind (choose kind None n' x s) r state' soft steps row) q d)
-  choose_did (Some f) n n' old marks marks' oldMarks r state' e p q d = let z : ◌≡◌ {A = ℕ} 0 1 = cc in absurd (omega arith)
-
-  -- a map whose questions found a fault
-  pub choose_refused : (o : Option MapFault) (n : ℕ) (marks : List ℕ) (f : MapFault) → Err f ≡ answer_to o → Did kind (choose kind o n marks s) (Err (of_map f)) state soft steps row
-  choose_refused None n marks f e = let z : ◌≡◌ {A = ℕ} 0 1 = cc in absurd (omega arith)
-  choose_refused (Some g) n marks f e = let w : f ≡ g = cc in rw w (refused_did (of_map g))
-
--- a word that was encoded into the first bytes of a memory is the answer
-pub word_done : {S : Type 0} (kind : Kind S) (o : Option MapFault) (word before last post : List ℕ) (size : ℕ) (s : InForce S) (state : State S) (soft : List S) (steps : List Step) (row : List ℕ) →
-    Stands kind s state soft steps row → length last ≡ size → Ok tt ≡ answer_to o → last ≡ in_force o word before →
-    Did kind (reply o word s) (Ok (bits_text (take size (last ++ post)) ∷ [])) state soft steps row
-word_done kind None word before last post size s state soft steps row st long e f = rw (take_at last post size long, f) (record { answer = refl; after = st })
-word_done kind (Some g) word before last post size s state soft steps row st long e f = let z : ◌≡◌ {A = ℕ} 0 1 = cc in absurd (omega arith)
-
--- a message that was refused
-pub word_refused : {S : Type 0} (kind : Kind S) (o : Option MapFault) (word : List ℕ) (f : MapFault) (s : InForce S) (state : State S) (soft : List S) (steps : List Step) (row : List ℕ) →
-    Stands kind s state soft steps row → Err f ≡ answer_to o → Did kind (reply o word s) (Err (of_map f)) state soft steps row
-word_refused kind None word f s state soft steps row st e = let z : ◌≡◌ {A = ℕ} 0 1 = cc in absurd (omega arith)
-word_refused kind (Some g) word f s state soft steps row st e = let w : f ≡ g = cc in rw w (record { answer = refl; after = st })
-
--- an order that a slot holds
-pub slot_did : {S : Type 0} (kind : Kind S) (shelf : List ℕ) (at : ℕ) (s : InForce S) (a : Result (List (List ℕ)) SessionFault) (state : State S) (soft : List S) (steps : List Step) (row : List ℕ) (o : Option Record) (r : Record) (bytes : List ℕ) →
-    Some r ≡ o → bytes ≡ part shelf r.place r.count → Did kind (do_order r.n bytes s) a state soft steps row →
-    Did kind (elim o [ None ↦ refuse (fault.Slot at) s | Some x ↦ do_order x.n (part shelf x.place x.count) s ]) a state soft steps row
-slot_did kind shelf at s a state soft steps row o r bytes e f d =
-    subst (λ (x : Option Record). Did kind (elim x [ None ↦ refuse (fault.Slot at) s | Some y ↦ do_order y.n (part shelf y.place y.count) s ]) a state soft steps row) e
-    (subst (λ b. Did kind (do_order r.n b s) a state soft steps row) f d)
-
--- a map of the order in force
-pub ranked_did : {S : Type 0} (kind : Kind S) (at k n : ℕ) (ranks : List ℕ) (s : InForce S) (a : Result (List (List ℕ)) SessionFault) (state : State S) (soft : List S) (steps : List Step) (row : List ℕ) (o : Option (ℕ × List ℕ)) →
-    o ≡ Some (n, ranks) → Did kind (choose kind (count_fault n k) n (ranked_marks (ranks_of ranks) k) s) a state soft steps row →
-    Did kind (elim o [ None ↦ refuse (fault.NoOrder at) s | Some x ↦ choose kind (count_fault x.0 k) x.0 (ranked_marks (ranks_of x.1) k) s ]) a state soft steps row
-ranked_did kind at k n ranks s a state soft steps row o e d =
-    subst (λ (x : Option (ℕ × List ℕ)). Did kind (elim x [ None ↦ refuse (fault.NoOrder at) s | Some y ↦ choose kind (count_fault y.0 k) y.0 (ranked_marks (ranks_of y.1) k) s ]) a state soft steps row) (sym e) d
-
--- a message that was encoded by the map in force
-pub encode_did : {S : Type 0} (kind : Kind S) (s : InForce S) (state : State S) (soft : List S) (steps : List Step) (row : List ℕ) (st : Stands kind s state soft steps row) (at : ℕ) (message : List ℕ) (map : Chosen) (before last post : List ℕ) (size room : ℕ) →
-    state.mapped ≡ true → map ≡ state.receiver.map → length last ≡ size → room ≡ length (marks_of map) → Ok tt ≡ answer_to (encode_fault (marks_of map) message room) →
-    last ≡ in_force (encode_fault (marks_of map) message room) (encoded (exponent_of map) (marks_of map) message) before →
-    Did kind (encoded_in at message s s.receiver) (Ok (bits_text (take size (last ++ post)) ∷ [])) state soft steps row
-encode_did {S} kind s state soft steps row st at message map before last post size room mapped map_is long room-is e f =
-    let a : Result (List (List ℕ)) SessionFault = Ok (bits_text (take size (last ++ post)) ∷ []) in
-    let d = word_done kind (encode_fault (marks_of map) message room) (encoded (exponent_of map) (marks_of map) message) before last post size s state soft steps row st long e f in
-    let d1 = subst (λ x. Did kind (reply (encode_fault (marks_of map) message x) (encoded (exponent_of map) (marks_of map) message) s) a state soft steps row) room-is d in
-    let d2 = subst (λ x. Did kind (reply (encode_fault x message (length x)) (encoded (exponent_of map) x message) s) a state soft steps row) (ap marks_of map_is ∙ sym st.agrees.marks_are) d1 in
-    let d3 = subst (λ x. Did kind (reply (encode_fault st.model.marks message (length st.model.marks)) (encoded x st.model.marks message) s) a state soft steps row) (ap exponent_of map_is ∙ sym st.agrees.n_is) d2 in
-    subst (λ (o : Option (Model S)). Did kind (encoded_in at message s o) a state soft steps row) (sym (there kind s state soft steps row st mapped)) d3
-
--- a message and a word that stand first in their memories
-pub taken_shown : (k a b : ℕ) (message rest word others : List ℕ) → length message ≡ a → length word ≡ b →
-    ◌≡◌ {A = Result (List (List ℕ)) SessionFault} (Ok (decimal k ∷ (message_text (take a (message ++ rest)) ∷ (bits_text (take b (word ++ others)) ∷ [])))) (Ok (decimal k ∷ (message_text message ∷ (bits_text word ∷ []))))
-taken_shown k a b message rest word others e f = rw (take_at message rest a e, take_at word others b f)
-
--- the bytes of an order, by another name
-pub order_as : {S : Type 0} (kind : Kind S) (n : ℕ) (bytes bytes' : List ℕ) (s : InForce S) (a : Result (List (List ℕ)) SessionFault) (state : State S) (soft : List S) (steps : List Step) (row : List ℕ) →
-    bytes ≡ bytes' → Did kind (do_order n bytes s) a state soft steps row → Did kind (do_order n bytes' s) a state soft steps row
-order_as kind n bytes bytes' s a state soft steps row e d = subst (λ b. Did kind (do_order n b s) a state soft steps row) e d
+-- a map that was made makes the first receiver
+pub made_did : {S : Type 0} (kind : Kind S) (s : InForce S) (state : State S) (memory : Memory S) → Stands kind s state memory → state.receiver ≡ None → (n : ℕ) (marks : List ℕ) (r' : Receiver Chosen S) → Agreed kind (fresh n marks) r' memory →
+    Did kind (choose kind None n marks s) (Ok (decimal (informed_count marks) ∷ [])) (record { order = state.order; receiver = Some r' }) memory
+made_did {S} kind s state memory st none n marks r' agrees = go s.receiver (subst (λ o. AgreedIf kind s.receiver o memory) none st.receiver)
+  where
+    go : (o : Option (Model S)) → AgreedIf kind o None memory → Did kind (chosen_in kind n marks s o) (Ok (decimal (informed_count marks) ∷ [])) (record { order = state.order; receiver = Some r' }) memory
+    go None h = record { answer = refl; after = record { order = st.order; receiver = agrees; room = st.room } }
+    go (Some m) h = absurd h

@@ -1,5 +1,5 @@
 -- What commands leave in force, over plain values.
-use Rattle.std.proofs.Common.{◌≡◌, ℕ, ◌^◌, true, false, List, [], ◌∷◌, Some, None, Err, decimal, Option, sym, refl, ap, ◌∙◌, arith}
+use Rattle.std.proofs.Common.{◌≡◌, ℕ, ◌^◌, true, false, List, [], ◌∷◌, Some, None, Err, decimal, Option, sym, refl, ap, ◌∙◌}
 use Rattle.code.specs.declared.faults.MapFault.{MapFault}
 use Rattle.code.specs.Encode.{informed_count}
 use Rattle.code.specs.Orders.{order_fault, count_fault, ranks_of, ranked_marks}
@@ -25,9 +25,9 @@ Accepts (receiver.took steps message bits) = Unit {0}
 
 told_ok : (more : List (List ℕ)) (a : Answer) (f : SessionFault) → Accepts a → told more a ≡ Err f → ⊥
 told_ok more (receiver.refused g) f ok e = ok
-told_ok more receiver.done f ok e = let z : ◌≡◌ {A = ℕ} 0 1 = cc in omega arith
-told_ok more (receiver.went steps ends) f ok e = let z : ◌≡◌ {A = ℕ} 0 1 = cc in omega arith
-told_ok more (receiver.took steps message bits) f ok e = let z : ◌≡◌ {A = ℕ} 0 1 = cc in omega arith
+told_ok more receiver.done f ok e = cc
+told_ok more (receiver.went steps ends) f ok e = cc
+told_ok more (receiver.took steps message bits) f ok e = cc
 
 -- where a command is refused, all stays in force; refused or not, the map stays, or the order
 pub record MapsStay {S : Type 0} (s : InForce S) (d : Done S) : Type 0 where
@@ -45,7 +45,7 @@ pub record BothStay {S : Type 0} (s : InForce S) (d : Done S) : Type 0 where
 
 module _ {S : Type 0} (kind : Kind S) (s : InForce S) where
   offered : (o : Option MapFault) (n : ℕ) (bytes : List ℕ) → MapsStay s (offer o n bytes s)
-  offered None n bytes = record { refused = λ f e. let z : ◌≡◌ {A = ℕ} 0 1 = cc in absurd (omega arith); map = refl }
+  offered None n bytes = record { refused = λ f e. absurd (cc); map = refl }
   offered (Some g) n bytes = record { refused = λ f e. refl; map = refl }
 
   slotted : (shelf : List ℕ) (at number : ℕ) → MapsStay s (do_slot shelf at number s)
@@ -66,7 +66,7 @@ module _ {S : Type 0} (kind : Kind S) (s : InForce S) where
   chosen None n marks = go s.receiver refl
     where
       go : (r : Option (Model S)) → s.receiver ≡ r → OrdersStay s (chosen_in kind n marks s r)
-      go None is = record { refused = λ f e. let z : ◌≡◌ {A = ℕ} 0 1 = cc in absurd (omega arith); order = refl }
+      go None is = record { refused = λ f e. absurd (cc); order = refl }
       go (Some m) is = record { refused = telling (decimal (informed_count marks) ∷ []) m _ receiver.done (remap_fault m) tt is; order = refl }
 
   ranked_stay : (at k : ℕ) → OrdersStay s (do_ranked kind at k s)
@@ -109,10 +109,10 @@ module _ {S : Type 0} (kind : Kind S) (s : InForce S) where
   -- what a request that chooses nothing leaves
   stays : (shelf : List ℕ) (at : ℕ) (q : Request) → chooses_order q ≡ false → chooses_map q ≡ false → BothStay s (perform kind shelf at q s)
   unfolding perform
-  stays shelf at (slot number) p q = let z : ◌≡◌ {A = ℕ} 0 1 = cc in absurd (omega arith)
-  stays shelf at (order n bytes) p q = let z : ◌≡◌ {A = ℕ} 0 1 = cc in absurd (omega arith)
-  stays shelf at (ranked k) p q = let z : ◌≡◌ {A = ℕ} 0 1 = cc in absurd (omega arith)
-  stays shelf at (listed n marks) p q = let z : ◌≡◌ {A = ℕ} 0 1 = cc in absurd (omega arith)
+  stays shelf at (slot number) p q = absurd (cc)
+  stays shelf at (order n bytes) p q = absurd (cc)
+  stays shelf at (ranked k) p q = absurd (cc)
+  stays shelf at (listed n marks) p q = absurd (cc)
   stays shelf at (encode message) p q =
       record { refused = λ f e. encoded_stay at message; order = ap (λ (x : InForce S). x.order) (encoded_stay at message); map = ap map_in (encoded_stay at message) }
   stays shelf at (caps first second) p q = called_stay at _ (λ m. receiver.set_caps first second) (λ m. caps_fault first second) (λ m. receiver.done) _ (λ m. refl) (λ m. tt) (λ m. (refl, refl))
@@ -139,10 +139,10 @@ refused_leaves_all kind shelf at dropping s = (stays kind s shelf at dropping re
 
 pub changes_only_by_choice : {S : Type 0} (kind : Kind S) → ChangesOnlyByChoice kind
 unfolding perform
-changes_only_by_choice kind shelf at (slot number) s = (λ e. let z : ◌≡◌ {A = ℕ} 0 1 = cc in absurd (omega arith), λ e. (slotted kind s shelf at number).map)
-changes_only_by_choice kind shelf at (order n bytes) s = (λ e. let z : ◌≡◌ {A = ℕ} 0 1 = cc in absurd (omega arith), λ e. (offered kind s (order_fault n bytes) n bytes).map)
-changes_only_by_choice kind shelf at (ranked k) s = (λ e. (ranked_stay kind s at k).order, λ e. let z : ◌≡◌ {A = ℕ} 0 1 = cc in absurd (omega arith))
-changes_only_by_choice kind shelf at (listed n marks) s = (λ e. (chosen kind s (listed_fault n marks) n marks).order, λ e. let z : ◌≡◌ {A = ℕ} 0 1 = cc in absurd (omega arith))
+changes_only_by_choice kind shelf at (slot number) s = (λ e. absurd (cc), λ e. (slotted kind s shelf at number).map)
+changes_only_by_choice kind shelf at (order n bytes) s = (λ e. absurd (cc), λ e. (offered kind s (order_fault n bytes) n bytes).map)
+changes_only_by_choice kind shelf at (ranked k) s = (λ e. (ranked_stay kind s at k).order, λ e. absurd (cc))
+changes_only_by_choice kind shelf at (listed n marks) s = (λ e. (chosen kind s (listed_fault n marks) n marks).order, λ e. absurd (cc))
 changes_only_by_choice kind shelf at (encode message) s = (λ e. (stays kind s shelf at (encode message) refl refl).order, λ e. (stays kind s shelf at (encode message) refl refl).map)
 changes_only_by_choice kind shelf at (caps first second) s = (λ e. (stays kind s shelf at (caps first second) refl refl).order, λ e. (stays kind s shelf at (caps first second) refl refl).map)
 changes_only_by_choice kind shelf at (word bytes) s = (λ e. (stays kind s shelf at (word bytes) refl refl).order, λ e. (stays kind s shelf at (word bytes) refl refl).map)

@@ -32,7 +32,7 @@ module _ (session : List ℕ) (at : ℕ) (bytes : List ℕ) where
   Fine o = (r : Read) → Ok r ≡ o → Left bytes r.rest × Placed session at r.request
 
   pub fine_err : (f : SessionFault) → Fine (Err f)
-  fine_err f r e = let z : ◌≡◌ {A = ℕ} 0 1 = cc in absurd (omega arith)
+  fine_err f r e = absurd (cc)
 
   pub fine_ok : (q : Read) → Left bytes q.rest → Placed session at q.request → Fine (Ok q)
   fine_ok q l p r e = let w : r ≡ q = cc in subst (λ (x : Read). Left bytes x.rest × Placed session at x.request) (sym w) (l, p)

@@ -1,8 +1,7 @@
-pub mod Operands
 pub mod Lines
 pub mod Records
-pub mod Doing
 pub mod Calling
+pub mod Doing
 pub mod Keeping
 pub mod Openings
 pub mod Runs

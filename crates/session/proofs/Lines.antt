@@ -1,58 +1,59 @@
--- Text that grows piece by piece.
-use Rattle.std.proofs.Common.{◌≡◌, ℕ, ◌+◌, ◌/◌, ◌%◌, ◌^◌, ◌<◌, ◌≤◌, cond, eqb, List, [], ◌∷◌, ◌++◌, length, get_or, take, decimal, sym, refl, append_assoc, arith}
-use Rattle.std.proofs.lemmas.List.{append-nil, map-append, take_more}
-use Rattle.session.specs.Text.{fields, bits_text, message_text, line_start}
-use Rattle.std.proofs.lemmas.Fmt.{decimal_digit, decimal_step}
+-- The letters of lines, over plain values.
+use Rattle.std.proofs.Common.{◌≡◌, ℕ, ◌<◌, Bool, true, false, ◌||◌, cond, eqb, List, [], ◌∷◌, Ok, Err, Option, Result, refl, arith}
+use Rattle.std.proofs.lemmas.Bool.{eqb-true}
+use Rattle.std.proofs.str.Laws.{one}
+use Rattle.std.specs.Char.{encode_utf8}
+use Rattle.code.specs.declared.faults.Report.{Report}
+use Rattle.session.specs.declared.answers.Answer.{Answer}
+use Rattle.session.specs.declared.commands.Make.{Make}
+use Rattle.session.specs.declared.commands.Make.TheVariants.{Ranked, Listed}
+use Rattle.session.specs.declared.commands.Sizes.{Sizes}
+use Rattle.session.specs.declared.faults.SessionFault.{SessionFault}
+use Rattle.session.specs.Answers.{shown_in}
+use Rattle.session.specs.Commands.{Read, read_in_make, read_command}
+use Rattle.session.specs.Faults.{report_of}
+use Rattle.session.specs.Text.{shown_letter}
 
--- the last digit of a number, after the digits before it
-pub last_digit : (xs ys : List ℕ) (n : ℕ) → 10 ≤ n → n < 2 ^ 64 → ys ≡ xs ++ decimal (n / 10) → ys ++ ((48 + n % 10) ∷ []) ≡ xs ++ decimal n
-last_digit xs ys n h small e = rw (e, decimal_step n h small, append_assoc)
+-- an ASCII character is one byte
+pub ascii_char : (c : ℕ) → c < 128 → encode_utf8 c ≡ c ∷ []
+ascii_char c small = one c small
 
-pub only_digit : (xs ys : List ℕ) (n : ℕ) → n < 10 → ys ≡ xs → ys ++ ((48 + n % 10) ∷ []) ≡ xs ++ decimal n
-only_digit xs ys n h e =
-    let r : n % 10 ≡ n = omega arith in
-    rw (e, decimal_digit n h, r)
+-- a line shows its letter, or `?`
+pub shown_small : (report : Report) (letter : ℕ) → letter < 128 → shown_letter report letter < 128
+shown_small report letter small = go (eqb report.number 15 || eqb report.number 19)
+  where
+    go : (b : Bool) → cond b 63 letter < 128
+    go true = omega arith
+    go false = small
 
-pub bits_none : (xs : List ℕ) → xs ≡ xs ++ bits_text []
-unfolding bits_text
-bits_none xs = sym (append-nil xs)
+pub answered_small : (answer : Result Answer SessionFault) (letter : ℕ) → letter < 128 → shown_in answer letter < 128
+answered_small (Ok a) letter small = small
+answered_small (Err f) letter small = shown_small (report_of f) letter small
 
--- one more bit
-pub bits_more : (xs ys zs bits : List ℕ) (i : ℕ) → i < length bits → ys ≡ xs ++ bits_text (take i bits) → zs ≡ ys ++ (cond (eqb (get_or bits i 0) 0) 48 49 ∷ []) →
-    zs ≡ xs ++ bits_text (take (i + 1) bits)
-unfolding bits_text
-bits_more xs ys zs bits i h e f = rw (f, e, take_more bits i 0 h, map-append, append_assoc)
+-- the letter of a command that was read, or refused, is shown as an ASCII character
+abbrev pub ReadSmall : ℕ → Result Read SessionFault → Type 0
+ReadSmall letter (Ok r) = letter < 128
+ReadSmall letter (Err f) = shown_letter (report_of f) letter < 128
 
--- the pieces of a line's start
-pub start_pieces : (xs : List ℕ) (number letter answer : ℕ) →
-    ((((xs ++ decimal number) ++ (32 ∷ [])) ++ (letter ∷ [])) ++ (32 ∷ [])) ++ decimal answer ≡ xs ++ line_start number letter answer
-unfolding line_start
-start_pieces xs number letter answer = simp (append_assoc, append-nil)
+small_read : (letter : ℕ) (o : Result Read SessionFault) → letter < 128 → ReadSmall letter o
+small_read letter (Ok r) small = small
+small_read letter (Err f) small = shown_small (report_of f) letter small
 
--- the pieces of a line with one field after its start
-pub one_field : (xs start f : List ℕ) → (((xs ++ start) ++ (32 ∷ [])) ++ f) ++ (10 ∷ []) ≡ xs ++ (start ++ (fields (f ∷ []) ++ (10 ∷ [])))
-one_field xs start f = simp append_assoc
+-- one letter more that is known
+small_when : (letter k : ℕ) (x y : Result Read SessionFault) → k < 128 → ReadSmall letter y → ReadSmall letter (cond (eqb letter k) x y)
+small_when letter k x y small rest = go (eqb letter k) refl
+  where
+    go : (b : Bool) → eqb letter k ≡ b → ReadSmall letter (cond b x y)
+    go true e = let h : letter ≡ k = eqb-true letter k e in small_read letter x (omega arith)
+    go false e = rest
 
--- the pieces of a line with two fields after its start
-pub two_fields : (xs start f g : List ℕ) →
-    (((((xs ++ start) ++ (32 ∷ [])) ++ f) ++ (32 ∷ [])) ++ g) ++ (10 ∷ []) ≡ xs ++ (start ++ (fields (f ∷ (g ∷ [])) ++ (10 ∷ [])))
-two_fields xs start f g = simp append_assoc
+small_in_make : (make : Make) (at letter : ℕ) (bytes : List ℕ) → ReadSmall letter (read_in_make make at letter bytes)
+small_in_make Ranked at letter bytes =
+    small_when letter 83 _ _ (omega arith) (small_when letter 79 _ _ (omega arith) (small_when letter 75 _ _ (omega arith) (omega arith)))
+small_in_make Listed at letter bytes = small_when letter 76 _ _ (omega arith) (omega arith)
 
--- the pieces of a line with nothing after its start
-pub no_field : (xs start : List ℕ) → (xs ++ start) ++ (10 ∷ []) ≡ xs ++ (start ++ (fields [] ++ (10 ∷ [])))
-no_field xs start = simp append_assoc
-
--- the pieces of a line with three fields after its start
-pub three_fields : (xs start f g h : List ℕ) →
-    (((((((xs ++ start) ++ (32 ∷ [])) ++ f) ++ (32 ∷ [])) ++ g) ++ (32 ∷ [])) ++ h) ++ (10 ∷ []) ≡ xs ++ (start ++ (fields (f ∷ (g ∷ (h ∷ []))) ++ (10 ∷ [])))
-three_fields xs start f g h = simp append_assoc
-
--- a message that has bits
-pub message_some : (bits : List ℕ) → (length bits ≡ 0 → ⊥) → message_text bits ≡ bits_text bits
-message_some [] some = absurd (some refl)
-message_some (b ∷ bits) some = refl
-
--- a message that has none
-pub message_none : (bits : List ℕ) → length bits ≡ 0 → message_text bits ≡ 45 ∷ []
-message_none [] none = refl
-message_none (b ∷ bits) none = absurd (omega arith)
+pub small_command : (make : Make) (sizes : Option Sizes) (at letter : ℕ) (bytes : List ℕ) → ReadSmall letter (read_command make sizes at letter bytes)
+unfolding read_command
+small_command make sizes at letter bytes =
+    small_when letter 69 _ _ (omega arith) (small_when letter 66 _ _ (omega arith) (small_when letter 87 _ _ (omega arith) (small_when letter 86 _ _ (omega arith)
+    (small_when letter 65 _ _ (omega arith) (small_when letter 84 _ _ (omega arith) (small_when letter 88 _ _ (omega arith) (small_in_make make at letter bytes)))))))

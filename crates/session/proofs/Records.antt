@@ -1,38 +1,13 @@
 -- The records of the shelf, as the code finds them.
-use Rattle.std.proofs.Common.{◌≡◌, ℕ, zero, suc, ◌+◌, ◌-◌, ◌*◌, ◌^◌, ◌<◌, ◌≤◌, Bool, true, false, cond, ◌&&◌, leb, List, [], ◌∷◌, length, get_or, drop, Some, None, Option, refl, ap, arith, length-drop}
-use Rattle.std.proofs.lemmas.Bool.{leb-true, le-leb, lt-leb, and_parts}
+use Rattle.std.proofs.Common.{◌≡◌, ℕ, zero, suc, ◌+◌, ◌-◌, ◌*◌, ◌^◌, ◌<◌, ◌≤◌, Bool, true, false, cond, ◌&&◌, leb, List, [], ◌∷◌, length, drop, Some, None, Option, refl, ap, arith, length-drop}
+use Rattle.std.proofs.lemmas.Bool.{leb-true, and_parts}
 use Rattle.code.specs.Spans.{good_exponent}
 use Rattle.session.specs.declared.shelf.Record.{Record}
 use Rattle.session.specs.Shelf.{record_of, record_from, slot_record}
 
--- there is no record at the end
-pub record_none : (at : ℕ) (bytes : List ℕ) → length bytes < 1 → None ≡ record_from at bytes
-record_none at [] none = refl
-record_none at (n ∷ bytes) none = absurd (omega arith)
-
--- n is not from 1 to 10
-pub record_bad : (at : ℕ) (bytes : List ℕ) → 0 < length bytes → good_exponent (get_or bytes 0 0) ≡ false → None ≡ record_from at bytes
-record_bad at [] some bad = absurd (omega arith)
-record_bad at (n ∷ bytes) some bad = rw bad
-
--- the ranks are not whole
-pub record_cut : (at : ℕ) (bytes : List ℕ) (count : ℕ) → 0 < length bytes → good_exponent (get_or bytes 0 0) ≡ true → count ≡ 2 * 2 ^ get_or bytes 0 0 →
-    length (drop 1 bytes) < count → None ≡ record_from at bytes
-record_cut at [] count some good e short = absurd (omega arith)
-record_cut at (n ∷ bytes) count some good e short =
-    let f : leb (2 * 2 ^ n) (length bytes) ≡ false = lt-leb _ _ (omega arith) in
-    rw (good, f)
-
-pub record_whole : (at : ℕ) (bytes : List ℕ) (count : ℕ) → 0 < length bytes → good_exponent (get_or bytes 0 0) ≡ true → count ≡ 2 * 2 ^ get_or bytes 0 0 →
-    count ≤ length (drop 1 bytes) → Some (record { n = get_or bytes 0 0; place = at + 1; count = count }) ≡ record_from at bytes
-record_whole at [] count some good e long = absurd (omega arith)
-record_whole at (n ∷ bytes) count some good e long =
-    let f : leb (2 * 2 ^ n) (length bytes) ≡ true = le-leb _ _ (omega arith) in
-    rw (good, f, e)
-
 -- a record that is found ends within the shelf
 pub record_within : (at : ℕ) (bytes : List ℕ) (r : Record) → Some r ≡ record_from at bytes → (r.place ≡ at + 1) × (1 + r.count ≤ length bytes)
-record_within at [] r e = let z : ◌≡◌ {A = ℕ} 0 1 = cc in absurd (omega arith)
+record_within at [] r e = absurd (cc)
 record_within at (n ∷ bytes) r e = go (good_exponent n && leb (2 * 2 ^ n) (length bytes)) refl e
   where
     go : (b : Bool) → good_exponent n && leb (2 * 2 ^ n) (length bytes) ≡ b → Some r ≡ cond b (Some (record_of at n)) None →
@@ -42,15 +17,14 @@ record_within at (n ∷ bytes) r e = go (good_exponent n && leb (2 * 2 ^ n) (len
         let l : 2 * 2 ^ n ≤ length bytes = leb-true (2 * 2 ^ n) (length bytes) (and_parts (good_exponent n) _ f).1 in
         let k : r.count ≡ 2 * 2 ^ n = ap (λ x. x.count) q in
         (ap (λ x. x.place) q, omega arith)
-    go false f h = let z : ◌≡◌ {A = ℕ} 0 1 = cc in absurd (omega arith)
+    go false f h = absurd (cc)
 
 -- past a record that is found, one slot less
-pub slot_more : (left at : ℕ) (shelf : List ℕ) (r : Record) → 0 < left → Some r ≡ record_from at (drop at shelf) →
-    slot_record (left - 1) (r.place + r.count) shelf ≡ slot_record left at shelf
+pub slot_more : (slot passed at : ℕ) (shelf : List ℕ) (r : Record) → passed < slot → Some r ≡ record_from at (drop at shelf) →
+    slot_record (slot - (passed + 1)) (r.place + r.count) shelf ≡ slot_record (slot - passed) at shelf
 unfolding slot_record
-slot_more zero at shelf r some e = absurd (omega arith)
-slot_more (suc left) at shelf r some e =
-    let p : suc left - 1 ≡ left = omega arith in
+slot_more slot passed at shelf r more e =
+    let p : slot - passed ≡ suc (slot - (passed + 1)) = omega arith in
     rw (p, ← e, slot_record)
 
 -- where no record is found, no slot is
@@ -75,5 +49,5 @@ slot_within (suc number) at shelf r e = go (record_from at (drop at shelf)) (λ 
   where
     go : (o : Option Record) → ((q : Record) → Some r ≡ slot_record number (q.place + q.count) shelf → r.place + r.count ≤ length shelf) →
         Some r ≡ elim o [ None ↦ None | Some q ↦ slot_record number (q.place + q.count) shelf ] → r.place + r.count ≤ length shelf
-    go None more f = let z : ◌≡◌ {A = ℕ} 0 1 = cc in absurd (omega arith)
+    go None more f = absurd (cc)
     go (Some q) more f = more q f

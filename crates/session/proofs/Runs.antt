@@ -8,6 +8,8 @@ use Rattle.code.proofs.LawfulSpans.{accepted_by}
 use Rattle.code.proofs.Looks.{marks_mean}
 use Rattle.code.proofs.Marks.{listed_means}
 use Rattle.soft.specs.Kind.{Kind, Laws}
+use Rattle.soft.specs.Erasure.{erasure, erasure_laws}
+use Rattle.soft.specs.Whole.{whole, whole_laws, stop}
 use Rattle.receiver.specs.Calls as receiver
 use Rattle.receiver.specs.Calls.{Call, called, answers_to}
 use Rattle.receiver.specs.Histories.{after_calls}
@@ -22,9 +24,9 @@ use Rattle.session.specs.Commands.{Request, slot, order, ranked, listed, encode,
 use Rattle.session.specs.Faults.{report_of}
 use Rattle.session.specs.Shelf.{slot_record}
 use Rattle.session.specs.Text.{refused_line}
-use Rattle.session.specs.Sessions.{InForce, Done, nothing, refuse, offer, told, chosen_in, choose, called_in, do_order, perform, answer_line, lines_from, sizes_in, chooses_order}
+use Rattle.session.specs.Sessions.{InForce, Done, nothing, refuse, offer, told, chosen_in, choose, called_in, do_order, perform, answer_line, lines_from, sizes_in, chooses_order, RefusedLeavesAll, ChangesOnlyByChoice}
 use Rattle.session.specs.Runs.{Act, leaves, makes, calls, calling, mapping, act_of, besides, Acts, Turn, in_force_after, acts_of, text_of, calls_in, answers_in, Lawfully, LawfulActs, Reads, Ending, ended, unread, TextOf, SessionsLawful}
-use Rattle.session.proofs.Keeping.{encoded_stay, changes_only_by_choice}
+use Rattle.session.proofs.Keeping.{encoded_stay, refused_leaves_all, changes_only_by_choice}
 
 -- an order in force was accepted
 abbrev Accepted : Option (ℕ × List ℕ) → Type 0
@@ -42,7 +44,7 @@ Mean (makes n marks) = Means n marks
 Mean (calls c a) = Mapped c
 
 none_some : {A X : Type 0} {x : X} → None ≡ Some x → A
-none_some e = let z : ◌≡◌ {A = ℕ} 0 1 = cc in absurd (omega arith)
+none_some e = absurd (cc)
 
 module _ {S : Type 0} (kind : Kind S) (s : InForce S) where
   offered : (o : Option MapFault) (n : ℕ) (bytes : List ℕ) → (offer o n bytes s).after.receiver ≡ s.receiver
@@ -254,3 +256,13 @@ sessions_lawful kind laws = record {
   acts = λ shelf at q s. acts_so kind s shelf at q;
   law = λ shelf turns. lawful_all kind laws shelf turns nothing refl tt;
 }
+
+-- the laws of sessions in each kind of soft number
+pub refused_leaves_both : (RefusedLeavesAll whole) × (RefusedLeavesAll erasure)
+refused_leaves_both = (refused_leaves_all whole, refused_leaves_all erasure)
+
+pub changes_both : (ChangesOnlyByChoice whole) × (ChangesOnlyByChoice erasure)
+changes_both = (changes_only_by_choice whole, changes_only_by_choice erasure)
+
+pub sessions_both : (SessionsLawful whole) × (SessionsLawful erasure)
+sessions_both = (sessions_lawful whole (whole_laws stop), sessions_lawful erasure erasure_laws)

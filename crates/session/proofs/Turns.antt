@@ -8,20 +8,19 @@ use Rattle.session.specs.Faults.{report_of}
 use Rattle.session.specs.Text.{refused_line}
 use Rattle.session.specs.Commands.{Read, read_command}
 use Rattle.session.specs.Sessions.{InForce, Done, perform, answer_line, sizes_in, lines_from}
-use Rattle.receiver.specs.declared.memory.Step.{Step}
+use Rattle.receiver.specs.declared.memory.Memory.{Memory}
+use Rattle.receiver.specs.Lent.{SameLoans}
 use Rattle.session.specs.declared.state.State.{State}
 use Rattle.session.specs.States.{Placed, Left, Stands, Did}
 use Rattle.session.proofs.Lefts.{left_drop, left_left, fine_command}
 
 -- the text so far and the lines that are left are the whole text
-pub record Going {S : Type 0} (kind : Kind S) (make : Make) (session shelf : List ℕ) (whole text rest messages words : List ℕ) (number : ℕ) (s : InForce S) : Type 0 where
+pub record Going {S : Type 0} (kind : Kind S) (make : Make) (session shelf : List ℕ) (whole text rest : List ℕ) (number : ℕ) (s : InForce S) : Type 0 where
   pub most : ℕ
   pub enough : length rest ≤ most
   pub lines : text ++ lines_from kind most make shelf (length session) number rest s ≡ whole
   pub left : Left session rest
   pub few : number + length rest ≤ length session
-  pub message_room : length messages ≡ 1024
-  pub word_room : length words ≡ 1024
 
 -- no bytes, no lines
 pub lines_none : {S : Type 0} (kind : Kind S) (most : ℕ) (make : Make) (shelf : List ℕ) (size number : ℕ) (s : InForce S) → lines_from kind most make shelf size number [] s ≡ []
@@ -48,13 +47,13 @@ pub after_letter : (session : List ℕ) (letter : ℕ) (bytes : List ℕ) → Le
 after_letter session letter bytes l = ap (drop 1) l.1 ∙ drop-drop 1 (length session - suc (length bytes)) session
 
 -- a command that was done leads to the next
-pub going_more : {S : Type 0} (kind : Kind S) (make : Make) (session shelf whole text rest messages words : List ℕ) (number : ℕ) (s : InForce S) → Going kind make session shelf whole text rest messages words number s →
-    0 < length rest → (r : Read) (next messages' words' : List ℕ) (done : Done S) →
+pub going_more : {S : Type 0} (kind : Kind S) (make : Make) (session shelf whole text rest : List ℕ) (number : ℕ) (s : InForce S) → Going kind make session shelf whole text rest number s →
+    0 < length rest → (r : Read) (next : List ℕ) (done : Done S) →
     Ok r ≡ read_command make (sizes_in s.receiver) (length session - length rest) (get_or rest 0 0) (take (length rest - 1) (drop 1 rest)) →
     done ≡ perform kind shelf (length session - length rest) r.request s → next ≡ text ++ answer_line number (get_or rest 0 0) done.answer →
-    length messages' ≡ length messages → length words' ≡ length words → Going kind make session shelf whole next r.rest messages' words' (number + 1) done.after
-going_more kind make session shelf whole text [] messages words number s g some r next messages' words' done e d n m w = absurd (omega arith)
-going_more kind make session shelf whole text (letter ∷ bytes) messages words number s g some r next messages' words' done e d n m w = go g.most g.enough g.lines
+    Going kind make session shelf whole next r.rest (number + 1) done.after
+going_more kind make session shelf whole text [] number s g some r next done e d n = absurd (omega arith)
+going_more kind make session shelf whole text (letter ∷ bytes) number s g some r next done e d n = go g.most g.enough g.lines
   where
     read : Ok r ≡ read_command make (sizes_in s.receiver) (length session - suc (length bytes)) letter bytes
     read = rw (take_rest (letter ∷ bytes) 1) at e
@@ -63,7 +62,7 @@ going_more kind make session shelf whole text (letter ∷ bytes) messages words 
     fine = fine_command session make (sizes_in s.receiver) (length session - suc (length bytes)) letter bytes (after_letter session letter bytes g.left) r read
 
     go : (most : ℕ) → suc (length bytes) ≤ most → text ++ lines_from kind most make shelf (length session) number (letter ∷ bytes) s ≡ whole →
-        Going kind make session shelf whole next r.rest messages' words' (number + 1) done.after
+        Going kind make session shelf whole next r.rest (number + 1) done.after
     go zero h l = absurd (omega arith)
     go (suc most) h l = record {
       most = most;
@@ -71,56 +70,65 @@ going_more kind make session shelf whole text (letter ∷ bytes) messages words 
       lines = rw add-one (lines_more kind most make shelf (length session) number letter bytes text s r next done read d n ∙ l);
       left = left_left session (letter ∷ bytes) r.rest g.left (left_left (letter ∷ bytes) bytes r.rest (left_drop 1 (letter ∷ bytes)) fine.0);
       few = omega (arith, fine.0.0, g.few);
-      message_room = m ∙ g.message_room;
-      word_room = w ∙ g.word_room;
     }
 
 -- where the operands of a command that was read stand, and that it takes a byte or more
-pub going_placed : {S : Type 0} (kind : Kind S) (make : Make) (session shelf whole text rest messages words : List ℕ) (number : ℕ) (s : InForce S) → Going kind make session shelf whole text rest messages words number s →
+pub going_placed : {S : Type 0} (kind : Kind S) (make : Make) (session shelf whole text rest : List ℕ) (number : ℕ) (s : InForce S) → Going kind make session shelf whole text rest number s →
     0 < length rest → (r : Read) →
     Ok r ≡ read_command make (sizes_in s.receiver) (length session - length rest) (get_or rest 0 0) (take (length rest - 1) (drop 1 rest)) →
     Placed session (length session - length rest) r.request × (length r.rest < length rest)
-going_placed kind make session shelf whole text [] messages words number s g some r e = absurd (omega arith)
-going_placed kind make session shelf whole text (letter ∷ bytes) messages words number s g some r e =
+going_placed kind make session shelf whole text [] number s g some r e = absurd (omega arith)
+going_placed kind make session shelf whole text (letter ∷ bytes) number s g some r e =
     let fine : Left bytes r.rest × Placed session (length session - suc (length bytes)) r.request =
     fine_command session make (sizes_in s.receiver) (length session - suc (length bytes)) letter bytes (after_letter session letter bytes g.left) r (rw (take_rest (letter ∷ bytes) 1) at e) in
     (fine.1, omega (arith, fine.0.0))
 
 -- a command that ends the session has the last line
-pub going_last : {S : Type 0} (kind : Kind S) (make : Make) (session shelf whole text rest messages words : List ℕ) (number : ℕ) (s : InForce S) → Going kind make session shelf whole text rest messages words number s →
+pub going_last : {S : Type 0} (kind : Kind S) (make : Make) (session shelf whole text rest : List ℕ) (number : ℕ) (s : InForce S) → Going kind make session shelf whole text rest number s →
     0 < length rest → (f : SessionFault) (next : List ℕ) →
     Err f ≡ read_command make (sizes_in s.receiver) (length session - length rest) (get_or rest 0 0) (take (length rest - 1) (drop 1 rest)) →
     next ≡ text ++ refused_line number (get_or rest 0 0) (report_of f) → next ≡ whole
-going_last kind make session shelf whole text [] messages words number s g some f next e n = absurd (omega arith)
-going_last kind make session shelf whole text (letter ∷ bytes) messages words number s g some f next e n = go g.most g.enough g.lines
+going_last kind make session shelf whole text [] number s g some f next e n = absurd (omega arith)
+going_last kind make session shelf whole text (letter ∷ bytes) number s g some f next e n = go g.most g.enough g.lines
   where
     go : (most : ℕ) → suc (length bytes) ≤ most → text ++ lines_from kind most make shelf (length session) number (letter ∷ bytes) s ≡ whole → next ≡ whole
     go zero h l = absurd (omega arith)
     go (suc most) h l = lines_last kind most make shelf (length session) number letter bytes text s f next (rw (take_rest (letter ∷ bytes) 1) at e) n ∙ l
 
 -- no bytes are left
-pub going_done : {S : Type 0} (kind : Kind S) (make : Make) (session shelf whole text rest messages words : List ℕ) (number : ℕ) (s : InForce S) → Going kind make session shelf whole text rest messages words number s →
+pub going_done : {S : Type 0} (kind : Kind S) (make : Make) (session shelf whole text rest : List ℕ) (number : ℕ) (s : InForce S) → Going kind make session shelf whole text rest number s →
     length rest < 1 → text ≡ whole
-going_done kind make session shelf whole text [] messages words number s g none = rw (lines_none kind g.most make shelf (length session) number s, append-nil) at g.lines
-going_done kind make session shelf whole text (letter ∷ bytes) messages words number s g none = absurd (omega arith)
+going_done kind make session shelf whole text [] number s g none = rw (lines_none kind g.most make shelf (length session) number s, append-nil) at g.lines
+going_done kind make session shelf whole text (letter ∷ bytes) number s g none = absurd (omega arith)
 
 -- between two commands: what is in force, and that the state and its work memory are so
-pub record Between {S : Type 0} (kind : Kind S) (make : Make) (session shelf : List ℕ) (whole text rest messages words : List ℕ) (number : ℕ) (state : State S) (soft : List S) (steps : List Step) (row : List ℕ) : Type 0 where
+pub record Between {S : Type 0} (kind : Kind S) (make : Make) (session shelf : List ℕ) (whole text rest : List ℕ) (number : ℕ) (state : State S) (memory : Memory S) : Type 0 where
   pub force : InForce S
-  pub stands : Stands kind force state soft steps row
-  pub going : Going kind make session shelf whole text rest messages words number force
+  pub stands : Stands kind force state memory
+  pub going : Going kind make session shelf whole text rest number force
 
 -- a command that was done leads to the next
-pub between_more : {S : Type 0} (kind : Kind S) (make : Make) (session shelf whole text rest messages words : List ℕ) (number : ℕ) (state : State S) (soft : List S) (steps : List Step) (row : List ℕ)
-    (b : Between kind make session shelf whole text rest messages words number state soft steps row) → 0 < length rest →
-    (r : Read) (next messages' words' : List ℕ) (state' : State S) (soft' : List S) (steps' : List Step) (row' : List ℕ) (answer : Result (List (List ℕ)) SessionFault) →
+pub between_more : {S : Type 0} (kind : Kind S) (make : Make) (session shelf whole text rest : List ℕ) (number : ℕ) (state : State S) (memory : Memory S)
+    (b : Between kind make session shelf whole text rest number state memory) → 0 < length rest →
+    (r : Read) (next : List ℕ) (state' : State S) (memory' : Memory S) (answer : Result (List (List ℕ)) SessionFault) →
     Ok r ≡ read_command make (sizes_in b.force.receiver) (length session - length rest) (get_or rest 0 0) (take (length rest - 1) (drop 1 rest)) →
-    Did kind (perform kind shelf (length session - length rest) r.request b.force) answer state' soft' steps' row' →
-    next ≡ text ++ answer_line number (get_or rest 0 0) answer → length messages' ≡ length messages → length words' ≡ length words →
-    Between kind make session shelf whole next r.rest messages' words' (number + 1) state' soft' steps' row'
-between_more kind make session shelf whole text rest messages words number state soft steps row b some r next messages' words' state' soft' steps' row' answer e did n m w =
+    Did kind (perform kind shelf (length session - length rest) r.request b.force) answer state' memory' →
+    next ≡ text ++ answer_line number (get_or rest 0 0) answer →
+    Between kind make session shelf whole next r.rest (number + 1) state' memory'
+between_more kind make session shelf whole text rest number state memory b some r next state' memory' answer e did n =
     record {
       force = (perform kind shelf (length session - length rest) r.request b.force).after;
       stands = did.after;
-      going = going_more kind make session shelf whole text rest messages words number b.force b.going some r next messages' words' _ e refl (n ∙ ap (λ x. text ++ answer_line number (get_or rest 0 0) x) did.answer) m w;
+      going = going_more kind make session shelf whole text rest number b.force b.going some r next _ e refl (n ∙ ap (λ x. text ++ answer_line number (get_or rest 0 0) x) did.answer);
     }
+
+-- memory that stays lent, call after call
+pub lent_on : {S : Type 0} (memory memory' memory'' : Memory S) → SameLoans memory memory' → SameLoans memory' memory'' → SameLoans memory memory''
+lent_on memory memory' memory'' g h = record {
+  soft = h.soft ∙ g.soft;
+  pending = h.pending ∙ g.pending;
+  bits = h.bits ∙ g.bits;
+  soft_long = h.soft_long ∙ g.soft_long;
+  pending_long = h.pending_long ∙ g.pending_long;
+  bits_long = h.bits_long ∙ g.bits_long;
+}

@@ -4,6 +4,7 @@ pub mod Readings
 pub mod Chosen
 pub mod Shelf
 pub mod Text
+pub mod Answers
 pub mod Sessions
 pub mod Runs
 pub mod States

@@ -1,67 +1,61 @@
 -- What the state of a session means: cited by `State`. Assumes nothing.
-use Rattle.std.specs.Prelude.{◌≡◌, ℕ, ◌+◌, ◌-◌, ◌≤◌, false, cond, List, [], ◌∷◌, length, take, drop, Some, None, Ok, Err, decimal, Result}
+use Rattle.std.specs.Prelude.{◌≡◌, ℕ, ◌+◌, ◌-◌, ◌≤◌, List, length, drop, Some, None, Ok, Err, Option, Result, option_map}
 use Rattle.code.specs.Spans.{part}
 use Rattle.soft.specs.Kind.{Kind}
-use Rattle.receiver.specs.declared.memory.Step.{Step}
+use Rattle.receiver.specs.declared.memory.Memory.{Memory}
+use Rattle.receiver.specs.declared.receiver.Receiver.{Receiver}
 use Rattle.receiver.specs.Agreement.{Agrees}
-use Rattle.receiver.specs.Model.{Model, fresh}
+use Rattle.receiver.specs.Model.{Model}
+use Rattle.code.specs.declared.order.Order.{Order}
+use Rattle.session.specs.declared.chosen.Chosen.{Chosen}
 use Rattle.session.specs.declared.faults.SessionFault.{SessionFault}
 use Rattle.session.specs.declared.interpreter.Opened.{Opened}
 use Rattle.session.specs.declared.state.State.{State}
-use Rattle.session.specs.declared.state.Answer.{Answer}
-use Rattle.session.specs.declared.state.Answer.TheVariants.{Nothing, Number, Pair, Word, Taken}
+use Rattle.session.specs.declared.answers.Answer.{Answer}
+use Rattle.session.specs.Answers.{answer_of}
 use Rattle.session.specs.Chosen.{exponent_of, marks_of}
 use Rattle.session.specs.Commands.{Request, slot, order, ranked, listed, encode, caps, word, short_word, advance, taking, dropping}
 use Rattle.session.specs.Sessions.{InForce, Done, Opening}
-use Rattle.session.specs.Text.{bits_text, message_text}
 
 -- the work memory is large enough for every code
-pub record Room {S : Type 0} (soft : List S) (steps : List Step) (row : List ℕ) : Type 0 where
-  pub soft_room : length soft ≡ 2048
-  pub step_room : length steps ≡ 64
-  pub bit_room : length row ≡ 1024
+pub record Room {S : Type 0} (memory : Memory S) : Type 0 where
+  pub soft_room : length memory.soft.now ≡ 2048
+  pub step_room : length memory.pending.now ≡ 64
+  pub bit_room : length memory.bits.now ≡ 1024
 
--- a state and its work memory are as what is in force says; before the first map, the receiver is a new one
-pub record Stands {S : Type 0} (kind : Kind S) (s : InForce S) (state : State S) (soft : List S) (steps : List Step) (row : List ℕ) : Type 0 where
-  pub model : Model S
-  pub order : s.order ≡ cond state.ordered (Some (state.order.n, state.order.ranks.now)) None
-  pub receiver : s.receiver ≡ cond state.mapped (Some model) None
-  pub new : state.mapped ≡ false → model ≡ fresh model.n model.marks
-  pub agrees : Agrees kind model (exponent_of state.receiver.map) (marks_of state.receiver.map) state.receiver.caps state.receiver.state soft steps row
-  pub room : Room soft steps row
+-- a receiver and its memory are as a model says
+abbrev pub Agreed : {S : Type 0} → Kind S → Model S → Receiver Chosen S → Memory S → Type 0
+Agreed kind m r memory = Agrees kind m (exponent_of r.map) (marks_of r.map) r.caps r.state memory.soft.now memory.pending.now memory.bits.now
 
--- the fields that an answer adds to its line; a message and a word stand first in their memories
-abbrev pub fields_of : List ℕ → List ℕ → Answer → List (List ℕ)
-fields_of messages words Nothing = []
-fields_of messages words (Number k) = decimal k ∷ []
-fields_of messages words (Pair a b) = decimal a ∷ (decimal b ∷ [])
-fields_of messages words (Word k) = bits_text (take k words) ∷ []
-fields_of messages words (Taken steps m k) = decimal steps ∷ (message_text (take m messages) ∷ (bits_text (take k words) ∷ []))
+-- the same of a receiver that may not be there yet
+abbrev pub AgreedIf : {S : Type 0} → Kind S → Option (Model S) → Option (Receiver Chosen S) → Memory S → Type 0
+AgreedIf kind None None memory = Unit {0}
+AgreedIf kind None (Some r) memory = ⊥
+AgreedIf kind (Some m) None memory = ⊥
+AgreedIf kind (Some m) (Some r) memory = Agreed kind m r memory
 
--- what a command answered
-abbrev pub answer_of : List ℕ → List ℕ → Result Answer SessionFault → Result (List (List ℕ)) SessionFault
-answer_of messages words (Ok a) = Ok (fields_of messages words a)
-answer_of messages words (Err f) = Err f
+-- an order by its n and its bytes
+abbrev pub order_of : Order → ℕ × List ℕ
+order_of o = (o.n, o.ranks.now)
+
+-- a state and its work memory are as what is in force says
+pub record Stands {S : Type 0} (kind : Kind S) (s : InForce S) (state : State S) (memory : Memory S) : Type 0 where
+  pub order : s.order ≡ option_map order_of state.order
+  pub receiver : AgreedIf kind s.receiver state.receiver memory
+  pub room : Room memory
 
 -- a command answered what it should, and left the state and its work memory so
-pub record Did {S : Type 0} (kind : Kind S) (d : Done S) (r : Result (List (List ℕ)) SessionFault) (state : State S) (soft : List S) (steps : List Step) (row : List ℕ) : Type 0 where
+pub record Did {S : Type 0} (kind : Kind S) (d : Done S) (r : Result (List (List ℕ)) SessionFault) (state : State S) (memory : Memory S) : Type 0 where
   pub answer : r ≡ d.answer
-  pub after : Stands kind d.after state soft steps row
-
--- what a command that leaves the work memory alone does, whatever is in force and in memory
-abbrev pub Does : {S : Type 0} → Kind S → (InForce S → Done S) → Result Answer SessionFault → State S → State S → Type 0
-Does {S} kind d r state state' = (s : InForce S) (soft : List S) (steps : List Step) (row : List ℕ) (messages words : List ℕ) →
-    Stands kind s state soft steps row → Did kind (d s) (answer_of messages words r) state' soft steps row
+  pub after : Stands kind d.after state memory
 
 -- what a command that works in memory does, whatever is in force
-abbrev pub Works : {S : Type 0} → Kind S → (InForce S → Done S) → Result Answer SessionFault → State S → List S → List Step → List ℕ → State S → List S → List Step → List ℕ → Type 0
-Works {S} kind d r state soft steps row state' soft' steps' row' = (s : InForce S) (messages words : List ℕ) →
-    Stands kind s state soft steps row → Did kind (d s) (answer_of messages words r) state' soft' steps' row'
+abbrev pub Works : {S : Type 0} → Kind S → (InForce S → Done S) → Result Answer SessionFault → State S → Memory S → State S → Memory S → Type 0
+Works {S} kind d r state memory state' memory' = (s : InForce S) → Stands kind s state memory → Did kind (d s) (answer_of r) state' memory'
 
--- the same, of one that may write the message and the word memory
-abbrev pub Writes : {S : Type 0} → Kind S → (InForce S → Done S) → List ℕ → List ℕ → Result Answer SessionFault → State S → List S → List Step → List ℕ → State S → List S → List Step → List ℕ → Type 0
-Writes {S} kind d messages words r state soft steps row state' soft' steps' row' = (s : InForce S) →
-    Stands kind s state soft steps row → Did kind (d s) (answer_of messages words r) state' soft' steps' row'
+-- what a command that leaves the work memory alone does, whatever is in memory
+abbrev pub Does : {S : Type 0} → Kind S → (InForce S → Done S) → Result Answer SessionFault → State S → State S → Type 0
+Does {S} kind d r state state' = (s : InForce S) (memory : Memory S) → Stands kind s state memory → Did kind (d s) (answer_of r) state' memory
 
 -- the ranks that an order command keeps stand in the session, after its letter and its n
 abbrev pub Placed : List ℕ → ℕ → Request → Type 0
@@ -78,8 +72,11 @@ Placed session at taking = Unit {0}
 Placed session at dropping = Unit {0}
 
 -- how a session begins, as it was read
+abbrev pub opened_as : Opened → Opening
+opened_as o = record { number = o.header.number; make = o.header.make; commands = o.commands.now }
+
 abbrev pub opening_of : Result Opened SessionFault → Result Opening SessionFault
-opening_of (Ok o) = Ok (record { number = o.number; make = o.make; commands = o.commands.now })
+opening_of (Ok o) = Ok (opened_as o)
 opening_of (Err f) = Err f
 
 -- the part of a session that is left, with its offset

@@ -8,7 +8,7 @@ fields [] = []
 fields (f ∷ fs) = 32 ∷ (f ++ fields fs)
 
 -- the start of a line: the command's number, its letter and its answer number
-unfoldable pub line_start : ℕ → ℕ → ℕ → List ℕ
+abbrev pub line_start : ℕ → ℕ → ℕ → List ℕ
 line_start number letter answer = decimal number ++ fields ((letter ∷ []) ∷ (decimal answer ∷ []))
 
 -- a command's line: its start, what the answer adds, and a newline
@@ -16,7 +16,7 @@ abbrev pub line : ℕ → ℕ → ℕ → List (List ℕ) → List ℕ
 line number letter answer more = line_start number letter answer ++ (fields more ++ (10 ∷ []))
 
 -- bits as the characters 0 and 1
-unfoldable pub bits_text : List ℕ → List ℕ
+abbrev pub bits_text : List ℕ → List ℕ
 bits_text bits = map (λ b. cond (b == 0) 48 49) bits
 
 -- the bits of a message, or `-` if there are none

@@ -1,28 +1,74 @@
 // What a session asks: its header and its commands.
+ghost use Rattle.std.specs.Prelude.{◌≡◌, ok_or, slice_index};
+ghost use Rattle.session.specs.declared.faults.SessionFault.{SessionFault};
+ghost use Rattle.session.specs.Commands.{number_of, make_of, header_of};
+
+use crate::faults::SessionFault;
 
 // The kind of soft number that a session decodes with.
-#[derive(Clone, Copy)]
+#[derive(Clone, Copy, Debug, PartialEq, Eq)]
 pub enum Number {
     Whole,
     Erasure,
 }
 
+impl TryFrom<u8> for Number {
+    type Error = SessionFault;
+
+    ghost try_from_gives = { λ byte r. r ≡ ok_or (number_of byte) SessionFault.Header };
+
+    fn try_from(byte: u8) -> Result<Number, SessionFault> {
+        match byte {
+            b'w' => Ok(Number::Whole),
+            b'e' => Ok(Number::Erasure),
+            _ => Err(SessionFault::Header),
+        }
+    }
+}
+
 // The make of map that a session chooses among.
-#[derive(Clone, Copy)]
+#[derive(Clone, Copy, Debug, PartialEq, Eq)]
 pub enum Make {
     Ranked,
     Listed,
 }
 
+impl TryFrom<u8> for Make {
+    type Error = SessionFault;
+
+    ghost try_from_gives = { λ byte r. r ≡ ok_or (make_of byte) SessionFault.Header };
+
+    fn try_from(byte: u8) -> Result<Make, SessionFault> {
+        match byte {
+            b'r' => Ok(Make::Ranked),
+            b'l' => Ok(Make::Listed),
+            _ => Err(SessionFault::Header),
+        }
+    }
+}
+
 // The first two bytes of a session.
-#[derive(Clone, Copy)]
+#[derive(Clone, Copy, Debug, PartialEq, Eq)]
 pub struct Header {
     pub number: Number,
     pub make: Make,
 }
 
+impl TryFrom<[u8; 2]> for Header {
+    type Error = SessionFault;
+
+    ghost try_from_gives = { λ bytes r. r ≡ header_of (slice_index bytes 0) (slice_index bytes 1) };
+
+    fn try_from(bytes: [u8; 2]) -> Result<Header, SessionFault> {
+        Ok(Header {
+            number: Number::try_from(bytes[0])?,
+            make: Make::try_from(bytes[1])?,
+        })
+    }
+}
+
 // A command with its operands, which stay a part of the session.
-#[derive(Clone, Copy)]
+#[derive(Clone, Copy, Debug, PartialEq, Eq)]
 pub enum Command<'a> {
     // `S`: the order in a slot of the shelf.
     Slot { slot: u8 },
@@ -49,7 +95,7 @@ pub enum Command<'a> {
 }
 
 // How many bytes `E` and `W` take under the map in force.
-#[derive(Clone, Copy)]
+#[derive(Clone, Copy, Debug, PartialEq, Eq)]
 pub struct Sizes {
     pub informed: usize,
     pub positions: usize,

@@ -28,12 +28,13 @@ pub enum SessionFault {
     Slot(usize),
 }
 
-impl SessionFault {
-    pub fn report(self) -> Report
-        ensures { result ≡ report_of self }
-    {
-        let (number, place) = match self {
-            SessionFault::Receiver(fault) => return fault.report(),
+// A refusal as the user sees it.
+impl From<SessionFault> for Report {
+    ghost from_gives = { λ fault r. r ≡ report_of fault };
+
+    fn from(fault: SessionFault) -> Report {
+        let (number, place) = match fault {
+            SessionFault::Receiver(fault) => return Report::from(fault),
             SessionFault::TooLong => (19, 0),
             SessionFault::Header => (15, 0),
             SessionFault::Letter(at) => (15, at),

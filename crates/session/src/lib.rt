@@ -1,6 +1,7 @@
 // Sessions: commands, the shelf of orders, and the lines that are printed.
 #![tactic(auto)]
 
+mod answers;
 mod chosen;
 pub mod commands;
 pub mod faults;

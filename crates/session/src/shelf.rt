@@ -3,13 +3,35 @@ ghost use Rattle.std.specs.Prelude.{◌≡◌, ◌+◌, ◌≤◌, length, drop}
 ghost use Rattle.code.specs.Spans.{part};
 ghost use Rattle.session.specs.Shelf.{record_from, slot_record, held_by};
 
-use crate::reading::positions;
+use code::sizes::positions;
 
 // What holds an order's ranks.
 #[derive(Clone, Copy)]
 pub(crate) enum Source {
     Session,
     Shelf,
+}
+
+// What is read: the session, and the shelf of order records.
+#[derive(Clone, Copy)]
+pub(crate) struct Sources<'a> {
+    pub(crate) session: &'a [u8],
+    pub(crate) shelf: &'a [u8],
+}
+
+impl<'a> Sources<'a> {
+    // An order's ranks as a part of the session or of the shelf, whichever holds them, with their place there.
+    pub(crate) fn ranks(self, source: Source, place: usize, count: usize) -> (&'a [u8], usize)
+        requires { place + count ≤ length (held_by source self.session.now self.shelf.now) }
+        ensures ranks { result.0.now ≡ part (held_by source self.entry.session.now self.entry.shelf.now) place count }
+        ensures place { result.1 ≡ place }
+    {
+        let held = match source {
+            Source::Session => self.session,
+            Source::Shelf => self.shelf,
+        };
+        (&held[place..place + count], place)
+    }
 }
 
 // Where an order's ranks stand: `count` bytes from the offset `place` on.
@@ -20,36 +42,14 @@ pub(crate) struct Record {
     pub(crate) count: usize,
 }
 
-// An order's ranks as a part of the session or of the shelf, whichever holds them, with their place there.
-pub(crate) fn ranks_from<'a>(
-    source: Source,
-    session: &'a [u8],
-    shelf: &'a [u8],
-    place: usize,
-    count: usize,
-) -> (&'a [u8], usize)
-    requires { place + count ≤ length (held_by source session.now shelf.now) }
-    ensures ranks { result.0.now ≡ part (held_by source session.now shelf.now) place count }
-    ensures place { result.1 ≡ place }
-{
-    match source {
-        Source::Session => (&session[place..place + count], place),
-        Source::Shelf => (&shelf[place..place + count], place),
-    }
-}
-
 // The order record that begins at `at`, if it is whole.
 fn record_at(shelf: &[u8], at: usize) -> Option<Record>
-    requires { at ≤ length shelf.now }
     ensures { result ≡ record_from at (drop at shelf.now) }
 {
-    let [n, ranks @ ..] = &shelf[at..] else {
+    let [n, ranks @ ..] = shelf.get(at..)? else {
         return None;
     };
-    let count = match positions(*n) {
-        Ok(positions) => 2 * positions,
-        Err(_) => return None,
-    };
+    let count = 2 * positions(*n).ok()?;
     if ranks.len() < count {
         return None;
     }
@@ -65,11 +65,9 @@ pub(crate) fn find_slot(shelf: &[u8], slot: u8) -> Option<Record>
     ensures { result ≡ slot_record slot 0 shelf.now }
 {
     let mut at = 0;
-    let mut left = slot;
-    while left > 0 {
+    for _passed in 0..slot {
         let before = record_at(shelf, at)?;
         at = before.place + before.count;
-        left -= 1;
     }
     record_at(shelf, at)
 }

@@ -1,82 +1,59 @@
 // What a session has in force, and what a command does to it.
-ghost use Rattle.std.specs.Prelude.{◌≡◌, ℕ, List, length, if◌then◌else◌, None as NoFault};
-ghost use Rattle.receiver.specs.declared.memory.Step.{Step as Pending};
+ghost use Rattle.std.specs.Prelude.{◌≡◌, length, None as NoFault};
+ghost use Rattle.receiver.specs.Lent.{SameLoans};
+ghost use Rattle.receiver.specs.declared.memory.Memory.{Memory as Lent};
 ghost use Rattle.session.specs.Chosen.{exponent_of, marks_of};
 ghost use Rattle.session.specs.Commands.{request_of};
 ghost use Rattle.session.specs.Sessions.{InForce, nothing, sizes_in, choose, do_order, do_slot, do_ranked, do_listed, do_encode, do_caps, do_word, do_short_word, do_advance, do_take, do_drop, perform};
-ghost use Rattle.session.specs.States.{Stands, Room, Did, Does, Works, Writes, Placed, answer_of};
+ghost use Rattle.session.specs.States.{Stands, Room, Does, Works, Placed};
 
+use crate::answers::{Answer, Buffers};
 use crate::chosen::Chosen;
 use crate::commands::{Command, Sizes};
 use crate::faults::SessionFault;
-use crate::reading::two_to;
-use crate::shelf::{Source, find_slot, ranks_from};
-use code::encode::{encode, informed_count};
-use code::map::Map;
+use crate::shelf::{Source, Sources, find_slot};
+use code::encode::{encode, informed_count, position_count};
+use code::listed::Listed;
 use code::order::Order;
-use receiver::memory::Step;
+use code::ranked::Ranked;
+use receiver::memory::Memory;
 use receiver::receiver::Receiver;
 use soft::soft::Soft;
 
-// An order and a receiver, each in force only once an order or a map was accepted.
+// The order in force and the receiver over the map in force, from the first that is accepted on.
 #[derive(Drop)]
 pub(crate) struct State<'a, S> {
-    pub(crate) ordered: bool,
-    pub(crate) order: Order<'a>,
-    pub(crate) mapped: bool,
-    pub(crate) receiver: Receiver<Chosen<'a>, S>,
-}
-
-// What the line of a command that was done adds: nothing, numbers, the first bits of the word memory, or the count of steps with the first bits of the message memory and of the word memory.
-#[derive(Clone, Copy)]
-pub(crate) enum Answer {
-    Nothing,
-    Number(usize),
-    Pair(usize, usize),
-    Word(usize),
-    Taken(usize, usize, usize),
-}
-
-// 1 for yes, 0 for no.
-fn flag(yes: bool) -> usize
-    ensures { result ≡ (if yes then 1 else 0) }
-{
-    if yes { 1 } else { 0 }
+    pub(crate) order: Option<Order<'a>>,
+    pub(crate) receiver: Option<Receiver<Chosen<'a>, S>>,
 }
 
 impl<'a, S: Soft + Copy> State<'a, S> {
     pub(crate) fn new() -> Self
-        ensures { (soft : List S) (steps : List Pending) (row : List ℕ) → Room soft steps row → Stands S.Soft.kind nothing result soft steps row }
+        ensures { (memory : Lent S) → Room memory → Stands S.Soft.kind nothing result memory }
     {
         State {
-            ordered: false,
-            order: Order::smallest(),
-            mapped: false,
-            receiver: Receiver::new(Chosen::new()),
+            order: None,
+            receiver: None,
         }
     }
 
     // How many bytes `E` and `W` take, if there is a map.
     pub(crate) fn sizes(&self) -> Option<Sizes>
-        ensures { (s : InForce S) (soft : List S) (steps : List Pending) (row : List ℕ) → Stands S.Soft.kind s self.now soft steps row → result ≡ sizes_in s.receiver }
+        ensures { (s : InForce S) (memory : Lent S) → Stands S.Soft.kind s self.now memory → result ≡ sizes_in s.receiver }
     {
-        if !self.mapped {
-            return None;
-        }
-        let map = self.receiver.map();
+        let map = self.receiver.as_ref()?.map();
         Some(Sizes {
             informed: informed_count(&map),
-            positions: two_to(map.n()),
+            positions: position_count(&map),
         })
     }
 
     // `O`, and the order that an `S` finds.
-    fn put_order(&mut self, n: u8, bytes: &'a [u8]) -> Result<Answer, SessionFault>
+    fn put_order(&mut self, n: u8, bytes: &'a [u8]) -> Result<Answer<'static>, SessionFault>
         ensures { Does S.Soft.kind (do_order n bytes.now) result self.old self.new }
     {
-        self.order.read(n, bytes)?;
-        self.ordered = true;
-        Ok(Answer::Number(n as usize))
+        self.order = Some(Order::read(n, bytes)?);
+        Ok(Answer::Number(usize::from(n)))
     }
 
     // `S`
@@ -84,68 +61,61 @@ impl<'a, S: Soft + Copy> State<'a, S> {
         &mut self,
         at: usize,
         slot: u8,
-        session: &'a [u8],
-        shelf: &'a [u8],
-    ) -> Result<Answer, SessionFault>
-        ensures { Does S.Soft.kind (do_slot shelf.now at slot) result self.old self.new }
+        sources: Sources<'a>,
+    ) -> Result<Answer<'static>, SessionFault>
+        ensures { Does S.Soft.kind (do_slot sources.entry.shelf.now at slot) result self.old self.new }
     {
-        let Some(record) = find_slot(shelf, slot) else {
-            return Err(SessionFault::Slot(at));
-        };
-        let (ranks, _) = ranks_from(Source::Shelf, session, shelf, record.place, record.count);
+        let record = find_slot(sources.shelf, slot).ok_or(SessionFault::Slot(at))?;
+        let (ranks, _) = sources.ranks(Source::Shelf, record.place, record.count);
         self.put_order(record.n, ranks)
     }
 
-    // A map that was made: the receiver is remapped. Before the first map it is a new one, which is always remapped.
-    fn put_map(&mut self, map: Chosen<'a>) -> Result<Answer, SessionFault>
+    // A map that was made: the first makes the receiver, a later one remaps it.
+    fn put_map(&mut self, map: Chosen<'a>) -> Result<Answer<'static>, SessionFault>
         ensures { Does S.Soft.kind (choose S.Soft.kind NoFault (exponent_of map.entry) (marks_of map.entry)) result self.old self.new }
     {
-        self.receiver.remap(map)?;
-        self.mapped = true;
+        match &mut self.receiver {
+            Some(receiver) => receiver.remap(map)?,
+            None => self.receiver = Some(Receiver::new(map)),
+        }
         Ok(Answer::Number(informed_count(&map)))
     }
 
     // `K`
-    fn put_ranked(&mut self, at: usize, k: u16) -> Result<Answer, SessionFault>
+    fn put_ranked(&mut self, at: usize, k: u16) -> Result<Answer<'static>, SessionFault>
         ensures { Does S.Soft.kind (do_ranked S.Soft.kind at k) result self.old self.new }
     {
-        if !self.ordered {
-            return Err(SessionFault::NoOrder(at));
-        }
-        let order = self.order;
-        let mut map = self.receiver.map();
-        map.put_ranked(order, k)?;
-        self.put_map(map)
+        let order = self.order.ok_or(SessionFault::NoOrder(at))?;
+        self.put_map(Chosen::Ranked(Ranked::choose(order, k)?))
     }
 
     // `L`
-    fn put_listed(&mut self, n: u8, marks: &'a [u8]) -> Result<Answer, SessionFault>
+    fn put_listed(&mut self, n: u8, marks: &'a [u8]) -> Result<Answer<'static>, SessionFault>
         ensures { Does S.Soft.kind (do_listed S.Soft.kind n marks.now) result self.old self.new }
     {
-        let mut map = self.receiver.map();
-        map.put_listed(n, marks)?;
-        self.put_map(map)
+        self.put_map(Chosen::Listed(Listed::read(n, marks)?))
     }
 
     // `B`
-    fn put_caps(&mut self, at: usize, first: u8, second: u8) -> Result<Answer, SessionFault>
+    fn put_caps(
+        &mut self,
+        at: usize,
+        first: u8,
+        second: u8,
+    ) -> Result<Answer<'static>, SessionFault>
         ensures { Does S.Soft.kind (do_caps S.Soft.kind at first second) result self.old self.new }
     {
-        if !self.mapped {
-            return Err(SessionFault::NoMap(at));
-        }
-        self.receiver.set_caps(first, second)?;
-        Ok(Answer::Pair(first as usize, second as usize))
+        let receiver = self.receiver.as_mut().ok_or(SessionFault::NoMap(at))?;
+        receiver.set_caps(first, second)?;
+        Ok(Answer::Pair(usize::from(first), usize::from(second)))
     }
 
     // `X`
-    fn drop_word(&mut self, at: usize) -> Result<Answer, SessionFault>
+    fn drop_word(&mut self, at: usize) -> Result<Answer<'static>, SessionFault>
         ensures { Does S.Soft.kind (do_drop S.Soft.kind at) result self.old self.new }
     {
-        if !self.mapped {
-            return Err(SessionFault::NoMap(at));
-        }
-        self.receiver.drop_word()?;
+        let receiver = self.receiver.as_mut().ok_or(SessionFault::NoMap(at))?;
+        receiver.drop_word()?;
         Ok(Answer::Nothing)
     }
 
@@ -154,16 +124,13 @@ impl<'a, S: Soft + Copy> State<'a, S> {
         &mut self,
         at: usize,
         bytes: &[u8],
-        soft: &mut [S],
-        pending: &mut [Step],
-        bits: &mut [u8],
-    ) -> Result<Answer, SessionFault>
-        ensures { Works S.Soft.kind (do_word S.Soft.kind at bytes.now) result self.old soft.old pending.old bits.old self.new soft.new pending.new bits.new }
+        memory: &mut Memory<S>,
+    ) -> Result<Answer<'static>, SessionFault>
+        ensures works { Works S.Soft.kind (do_word S.Soft.kind at bytes.now) result self.old memory.old self.new memory.new }
+        ensures lent { SameLoans memory.old memory.new }
     {
-        if !self.mapped {
-            return Err(SessionFault::NoMap(at));
-        }
-        self.receiver.word(soft, pending, bits, bytes)?;
+        let receiver = self.receiver.as_mut().ok_or(SessionFault::NoMap(at))?;
+        receiver.word(memory, bytes)?;
         Ok(Answer::Nothing)
     }
 
@@ -172,16 +139,13 @@ impl<'a, S: Soft + Copy> State<'a, S> {
         &mut self,
         at: usize,
         bytes: &[u8],
-        soft: &mut [S],
-        pending: &mut [Step],
-        bits: &mut [u8],
-    ) -> Result<Answer, SessionFault>
-        ensures { Works S.Soft.kind (do_short_word S.Soft.kind at bytes.now) result self.old soft.old pending.old bits.old self.new soft.new pending.new bits.new }
+        memory: &mut Memory<S>,
+    ) -> Result<Answer<'static>, SessionFault>
+        ensures works { Works S.Soft.kind (do_short_word S.Soft.kind at bytes.now) result self.old memory.old self.new memory.new }
+        ensures lent { SameLoans memory.old memory.new }
     {
-        if !self.mapped {
-            return Err(SessionFault::NoMap(at));
-        }
-        self.receiver.short_word(soft, pending, bits, bytes)?;
+        let receiver = self.receiver.as_mut().ok_or(SessionFault::NoMap(at))?;
+        receiver.short_word(memory, bytes)?;
         Ok(Answer::Nothing)
     }
 
@@ -190,95 +154,81 @@ impl<'a, S: Soft + Copy> State<'a, S> {
         &mut self,
         at: usize,
         allowance: u16,
-        soft: &mut [S],
-        pending: &mut [Step],
-        bits: &mut [u8],
-    ) -> Result<Answer, SessionFault>
-        ensures { Works S.Soft.kind (do_advance S.Soft.kind at allowance) result self.old soft.old pending.old bits.old self.new soft.new pending.new bits.new }
+        memory: &mut Memory<S>,
+    ) -> Result<Answer<'static>, SessionFault>
+        ensures works { Works S.Soft.kind (do_advance S.Soft.kind at allowance) result self.old memory.old self.new memory.new }
+        ensures lent { SameLoans memory.old memory.new }
     {
-        if !self.mapped {
-            return Err(SessionFault::NoMap(at));
-        }
-        let advance = self.receiver.advance(soft, pending, bits, allowance)?;
-        Ok(Answer::Pair(advance.made as usize, flag(advance.finished)))
+        let receiver = self.receiver.as_mut().ok_or(SessionFault::NoMap(at))?;
+        let advance = receiver.advance(memory, allowance)?;
+        Ok(Answer::Pair(usize::from(advance.made), usize::from(advance.finished)))
     }
 
     // `T`
-    fn take(
+    fn take<'b>(
         &mut self,
         at: usize,
-        soft: &mut [S],
-        pending: &mut [Step],
-        bits: &mut [u8],
-        message: &mut [u8],
-        word: &mut [u8],
-    ) -> Result<Answer, SessionFault>
-        requires message { length message.old ≡ 1024 }
-        requires word { length word.old ≡ 1024 }
-        ensures { Writes S.Soft.kind (do_take S.Soft.kind at) message.new word.new result self.old soft.old pending.old bits.old self.new soft.new pending.new bits.new }
+        memory: &mut Memory<S>,
+        buffers: Buffers<'b>,
+    ) -> Result<Answer<'b>, SessionFault>
+        ensures works { Works S.Soft.kind (do_take S.Soft.kind at) result self.old memory.old self.new memory.new }
+        ensures lent { SameLoans memory.old memory.new }
     {
-        if !self.mapped {
-            return Err(SessionFault::NoMap(at));
-        }
-        let map = self.receiver.map();
+        let receiver = self.receiver.as_mut().ok_or(SessionFault::NoMap(at))?;
+        let map = receiver.map();
         let informed = informed_count(&map);
-        let positions = two_to(map.n());
-        let steps = self.receiver.take(
-            soft,
-            pending,
-            bits,
-            &mut message[0..informed],
-            &mut word[0..positions],
-        )?;
-        Ok(Answer::Taken(steps as usize, informed, positions))
+        let positions = position_count(&map);
+        let Buffers { message, word } = buffers;
+        let message = &mut message[0..informed];
+        let word = &mut word[0..positions];
+        let steps = receiver.take(memory, message, word)?;
+        Ok(Answer::Taken(steps, message, word))
     }
 
     // `E`
-    fn encode(&self, at: usize, message: &[u8], word: &mut [u8]) -> Result<Answer, SessionFault>
-        requires { length word.old ≡ 1024 }
-        ensures { (s : InForce S) (soft : List S) (steps : List Pending) (row : List ℕ) (messages : List ℕ) → Stands S.Soft.kind s self.now soft steps row → Did S.Soft.kind (do_encode at message.now s) (answer_of messages word.new result) self.now soft steps row }
+    fn encode<'b>(
+        &self,
+        at: usize,
+        message: &[u8],
+        buffers: Buffers<'b>,
+    ) -> Result<Answer<'b>, SessionFault>
+        ensures { Does S.Soft.kind (do_encode at message.now) result self.now self.now }
     {
-        if !self.mapped {
-            return Err(SessionFault::NoMap(at));
-        }
-        let map = self.receiver.map();
-        let size = two_to(map.n());
-        encode(&map, message, &mut word[0..size])?;
-        Ok(Answer::Word(size))
+        let receiver = self.receiver.as_ref().ok_or(SessionFault::NoMap(at))?;
+        let map = receiver.map();
+        let word = &mut buffers.word[0..position_count(&map)];
+        encode(&map, message, word)?;
+        Ok(Answer::Word(word))
     }
 
     // Does what a command asks, whose letter stands at offset `at`.
-    pub(crate) fn run(
+    #[tactic(auto, unfolding(crate::specs::Sessions::perform))]
+    pub(crate) fn run<'b>(
         &mut self,
         command: Command<'a>,
         at: usize,
-        session: &'a [u8],
-        shelf: &'a [u8],
-        soft: &mut [S],
-        pending: &mut [Step],
-        bits: &mut [u8],
-        message: &mut [u8],
-        word: &mut [u8],
-    ) -> Result<Answer, SessionFault>
-        requires messages { length message.old ≡ 1024 }
-        requires words { length word.old ≡ 1024 }
-        requires placed { Placed session.now at (request_of command) }
-        ensures { Writes S.Soft.kind (perform S.Soft.kind shelf.now at (request_of command.entry)) message.new word.new result self.old soft.old pending.old bits.old self.new soft.new pending.new bits.new }
+        sources: Sources<'a>,
+        memory: &mut Memory<S>,
+        buffers: Buffers<'b>,
+    ) -> Result<Answer<'b>, SessionFault>
+        requires { Placed sources.session.now at (request_of command) }
+        ensures works { Works S.Soft.kind (perform S.Soft.kind sources.entry.shelf.now at (request_of command.entry)) result self.old memory.old self.new memory.new }
+        ensures lent { SameLoans memory.old memory.new }
     {
         match command {
-            Command::Slot { slot } => self.put_slot(at, slot, session, shelf),
+            Command::Slot { slot } => self.put_slot(at, slot, sources),
             Command::Order { n, ranks } => {
-                let (ranks, _) = ranks_from(Source::Session, session, shelf, at + 2, ranks.len());
+                let (ranks, _) = sources.ranks(Source::Session, at + 2, ranks.len());
                 self.put_order(n, ranks)
             }
             Command::Ranked { k } => self.put_ranked(at, k),
             Command::Listed { n, marks } => self.put_listed(n, marks),
-            Command::Encode { message } => self.encode(at, message, word),
+            Command::Encode { message } => self.encode(at, message, buffers),
             Command::Caps { first, second } => self.put_caps(at, first, second),
-            Command::Word { bytes } => self.word(at, bytes, soft, pending, bits),
-            Command::ShortWord { bytes } => self.short_word(at, bytes, soft, pending, bits),
-            Command::Advance { allowance } => self.advance(at, allowance, soft, pending, bits),
-            Command::Take => self.take(at, soft, pending, bits, message, word),
+            Command::Word { bytes } => self.word(at, bytes, memory),
+            Command::ShortWord { bytes } => self.short_word(at, bytes, memory),
+            Command::Advance { allowance } => self.advance(at, allowance, memory),
+            Command::Take => self.take(at, memory, buffers),
             Command::Drop => self.drop_word(at),
         }
     }

@@ -1,176 +1,125 @@
-// Writing the lines of a session.
-ghost use Rattle.std.specs.Prelude.{◌≡◌, [], ◌∷◌, ◌++◌, if◌then◌else◌, decimal, OnOk, nat_eq};
-ghost use Rattle.session.specs.Text.{line_start, bits_text, message_text, shown_letter, refused_line, done_line};
+// The lines of a session.
+ghost use Rattle.std.specs.Prelude.{◌≡◌, ◌<◌, [], ◌∷◌, if◌then◌else◌, nat_eq, Some};
+ghost use Rattle.session.specs.Answers.{answer_of, shown_in};
+ghost use Rattle.session.specs.Sessions.{answer_line};
+ghost use Rattle.session.specs.Text.{bits_text, message_text, shown_letter};
 
+use crate::answers::Answer;
+use crate::faults::SessionFault;
 use code::faults::Report;
-use std::alloc::AllocError;
+use std::fmt;
 
-// Appends a number in decimal.
-pub(crate) fn push_number(text: &mut Vec<u8>, n: usize) -> Result<(), AllocError>
-    ensures { OnOk result (text.new.items ≡ text.old.items ++ decimal n) }
-{
-    if n >= 10 {
-        push_number(text, n / 10)?;
-    }
-    text.push(b'0' + (n % 10) as u8)?;
-    Ok(())
+// The answer number of a command that was done.
+const DONE: u8 = 0;
+
+// The line of a command: its number, its letter and its answer.
+#[derive(Clone, Copy)]
+pub(crate) struct Line<'b> {
+    pub(crate) number: usize,
+    pub(crate) letter: u8,
+    pub(crate) answer: Result<Answer<'b>, SessionFault>,
+    ghost ascii: { shown_in answer letter < 128 },
 }
 
-// Appends bits as the characters 0 and 1.
-fn push_bits(text: &mut Vec<u8>, bits: &[u8]) -> Result<(), AllocError>
-    ensures { OnOk result (text.new.items ≡ text.old.items ++ bits_text bits.now) }
-{
-    for bit in bits {
-        text.push(bit_char(*bit))?;
+impl fmt::Display for Line<'_> {
+    ghost output = { λ l. Some (answer_line l.number l.letter (answer_of l.answer)) };
+
+    fn fmt<W: fmt::Write>(&self, f: &mut fmt::Formatter<W>) -> fmt::Result {
+        let number = self.number;
+        match self.answer {
+            Ok(answer) => {
+                let letter = Letter { byte: self.letter };
+                match answer {
+                    Answer::Nothing => writeln!(f, "{number} {letter} {DONE}"),
+                    Answer::Number(count) => writeln!(f, "{number} {letter} {DONE} {count}"),
+                    Answer::Pair(first, second) => {
+                        writeln!(f, "{number} {letter} {DONE} {first} {second}")
+                    }
+                    Answer::Word(word) => writeln!(f, "{number} {letter} {DONE} {}", Bits(word)),
+                    Answer::Taken(steps, message, word) => writeln!(
+                        f,
+                        "{number} {letter} {DONE} {steps} {} {}",
+                        Message(message),
+                        Bits(word)
+                    ),
+                }
+            }
+            Err(fault) => {
+                let report = Report::from(fault);
+                let letter = Letter::shown(report, self.letter);
+                let Report {
+                    number: answer,
+                    layer,
+                    place,
+                } = report;
+                writeln!(f, "{number} {letter} {answer} {layer} {place}")
+            }
+        }
     }
-    Ok(())
 }
 
-// Appends the bits of a message, or `-` if there are none.
-fn push_message(text: &mut Vec<u8>, bits: &[u8]) -> Result<(), AllocError>
-    ensures { OnOk result (text.new.items ≡ text.old.items ++ message_text bits.now) }
-{
-    if bits.is_empty() {
-        text.push(b'-')?;
-        return Ok(());
-    }
-    push_bits(text, bits)
+// The letter of a line, which is an ASCII character.
+#[derive(Clone, Copy)]
+struct Letter {
+    byte: u8,
+    ghost ascii: { byte < 128 },
 }
 
-fn bit_char(bit: u8) -> u8
+impl Letter {
+    // A letter that is not known is shown as `?`, and so is that of a session that is too long.
+    fn shown(report: Report, byte: u8) -> Letter
+        requires { shown_letter report byte < 128 }
+        ensures { result.byte ≡ shown_letter report byte }
+    {
+        if report.number == 15 || report.number == 19 {
+            Letter { byte: b'?' }
+        } else {
+            Letter { byte }
+        }
+    }
+}
+
+impl fmt::Display for Letter {
+    ghost output = { λ l. Some (l.byte ∷ []) };
+
+    #[tactic(auto, using(crate::proofs::Lines::ascii_char))]
+    fn fmt<W: fmt::Write>(&self, f: &mut fmt::Formatter<W>) -> fmt::Result {
+        f.write_char(char::from(self.byte))
+    }
+}
+
+// Bits as the characters 0 and 1.
+#[derive(Clone, Copy)]
+struct Bits<'b>(&'b [u8]);
+
+impl fmt::Display for Bits<'_> {
+    ghost output = { λ bits. Some (bits_text bits.0.now) };
+
+    fn fmt<W: fmt::Write>(&self, f: &mut fmt::Formatter<W>) -> fmt::Result {
+        for bit in self.0 {
+            f.write_char(bit_char(*bit))?;
+        }
+        Ok(())
+    }
+}
+
+fn bit_char(bit: u8) -> char
     ensures { result ≡ (if nat_eq bit 0 then 48 else 49) }
 {
-    if bit == 0 { b'0' } else { b'1' }
+    if bit == 0 { '0' } else { '1' }
 }
 
-// Appends the start of a line: the command's number, its letter and its answer number.
-fn push_start(
-    text: &mut Vec<u8>,
-    number: usize,
-    letter: u8,
-    answer: usize,
-) -> Result<(), AllocError>
-    ensures { OnOk result (text.new.items ≡ text.old.items ++ line_start number letter answer) }
-{
-    push_number(text, number)?;
-    text.push(b' ')?;
-    text.push(letter)?;
-    text.push(b' ')?;
-    push_number(text, answer)?;
-    Ok(())
-}
+// The bits of a message, or `-` if there are none.
+#[derive(Clone, Copy)]
+struct Message<'b>(&'b [u8]);
 
-// Appends the line of a refusal.
-pub(crate) fn push_refusal(
-    text: &mut Vec<u8>,
-    number: usize,
-    letter: u8,
-    report: Report,
-) -> Result<(), AllocError>
-    ensures { OnOk result (text.new.items ≡ text.old.items ++ refused_line number letter report) }
-{
-    push_start(
-        text,
-        number,
-        shown_letter(report, letter),
-        report.number as usize,
-    )?;
-    text.push(b' ')?;
-    push_number(text, report.layer as usize)?;
-    text.push(b' ')?;
-    push_number(text, report.place)?;
-    text.push(b'\n')?;
-    Ok(())
-}
+impl fmt::Display for Message<'_> {
+    ghost output = { λ message. Some (message_text message.0.now) };
 
-fn shown_letter(report: Report, letter: u8) -> u8
-    ensures { result ≡ shown_letter report letter }
-{
-    if report.number == 15 || report.number == 19 {
-        b'?'
-    } else {
-        letter
+    fn fmt<W: fmt::Write>(&self, f: &mut fmt::Formatter<W>) -> fmt::Result {
+        if self.0.is_empty() {
+            return f.write_char('-');
+        }
+        write!(f, "{}", Bits(self.0))
     }
-}
-
-// Appends the line of a command that answers a number.
-pub(crate) fn push_count(
-    text: &mut Vec<u8>,
-    number: usize,
-    letter: u8,
-    count: usize,
-) -> Result<(), AllocError>
-    ensures { OnOk result (text.new.items ≡ text.old.items ++ done_line number letter (decimal count ∷ [])) }
-{
-    push_start(text, number, letter, 0)?;
-    text.push(b' ')?;
-    push_number(text, count)?;
-    text.push(b'\n')?;
-    Ok(())
-}
-
-// Appends the line of a command that answers a word.
-pub(crate) fn push_word(
-    text: &mut Vec<u8>,
-    number: usize,
-    letter: u8,
-    word: &[u8],
-) -> Result<(), AllocError>
-    ensures { OnOk result (text.new.items ≡ text.old.items ++ done_line number letter (bits_text word.now ∷ [])) }
-{
-    push_start(text, number, letter, 0)?;
-    text.push(b' ')?;
-    push_bits(text, word)?;
-    text.push(b'\n')?;
-    Ok(())
-}
-
-// Appends the line of a command that answers nothing more.
-pub(crate) fn push_plain(text: &mut Vec<u8>, number: usize, letter: u8) -> Result<(), AllocError>
-    ensures { OnOk result (text.new.items ≡ text.old.items ++ done_line number letter []) }
-{
-    push_start(text, number, letter, 0)?;
-    text.push(b'\n')?;
-    Ok(())
-}
-
-// Appends the line of a command that answers two numbers.
-pub(crate) fn push_pair(
-    text: &mut Vec<u8>,
-    number: usize,
-    letter: u8,
-    first: usize,
-    second: usize,
-) -> Result<(), AllocError>
-    ensures { OnOk result (text.new.items ≡ text.old.items ++ done_line number letter (decimal first ∷ (decimal second ∷ []))) }
-{
-    push_start(text, number, letter, 0)?;
-    text.push(b' ')?;
-    push_number(text, first)?;
-    text.push(b' ')?;
-    push_number(text, second)?;
-    text.push(b'\n')?;
-    Ok(())
-}
-
-// Appends the line of a command that answers a count of steps, a message and a word.
-pub(crate) fn push_taken(
-    text: &mut Vec<u8>,
-    number: usize,
-    letter: u8,
-    steps: usize,
-    message: &[u8],
-    word: &[u8],
-) -> Result<(), AllocError>
-    ensures { OnOk result (text.new.items ≡ text.old.items ++ done_line number letter (decimal steps ∷ (message_text message.now ∷ (bits_text word.now ∷ [])))) }
-{
-    push_start(text, number, letter, 0)?;
-    text.push(b' ')?;
-    push_number(text, steps)?;
-    text.push(b' ')?;
-    push_message(text, message)?;
-    text.push(b' ')?;
-    push_bits(text, word)?;
-    text.push(b'\n')?;
-    Ok(())
 }

@@ -1,13 +1,16 @@
-use Rattle.std.proofs.Common.{◌++◌, length, vec_items}
+use Rattle.std.proofs.Common.{◌++◌, length, string_bytes}
+use Rattle.receiver.specs.Lent.{SameLoans}
 use Rattle.session.specs.Sessions.{lines_from, nothing}
 use Rattle.session.proofs.Turns.{Between}
 use Rattle.session.proofs.interpreter.push_lines.Given as goal
 
 abbrev pub invariant-loop-rest : goal.invariant-loop-rest
-invariant-loop-rest g l =
-    Between g.S.Soft.kind l.make l.session l.shelf
-    (vec_items l.initial.text ++ lines_from g.S.Soft.kind (length l.commands) l.make l.shelf (length l.session) 0 l.commands nothing)
-    (vec_items l.text) l.rest l.message l.word l.number l.state l.soft l.pending l.bits
+invariant-loop-rest g l = record {
+  between : Between g.S.Soft.kind l.make l.sources.session.now l.sources.shelf.now
+      (string_bytes l.initial.text ++ lines_from g.S.Soft.kind (length l.commands) l.make l.sources.shelf.now (length l.sources.session.now) 0 l.commands nothing)
+      (string_bytes l.text) l.rest l.number l.state l.memory;
+  lent : SameLoans l.initial.memory l.memory;
+}
 
 abbrev pub decreases-loop-rest : goal.decreases-loop-rest
 decreases-loop-rest g l = length l.rest

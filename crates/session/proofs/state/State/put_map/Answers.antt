@@ -1,15 +1,23 @@
-use Rattle.std.proofs.Common.{[], ◌∷◌, Ok, Err, decimal, refl, ap}
-use Rattle.session.proofs.Calling.{remap_did, remap_refused, did_as, handed_up}
+use Rattle.std.proofs.Common.{Ok, refl}
+use Rattle.receiver.specs.Histories.{plain, after_calls}
+use Rattle.session.specs.Chosen.{exponent_of, marks_of}
+use Rattle.session.proofs.Calling.{remap_agreed}
+use Rattle.session.proofs.Doing.{map_did, made_did}
 use Rattle.session.proofs.state.State.put_map.Goals as goal
+use Rattle.session.proofs.state.State.put_map.Goals.{in-Some+in_ok-remap-in-Some, in-None}
 
 pub returns : goal.returns
-returns g c = λ s soft steps row messages words st.
-    let h = c.in_ok-remap.ensures in
-    did_as g.S.Soft.kind _ _ _ _ soft steps row (ap (λ k. Ok (decimal k ∷ [])) c.informed_count.ensures)
-    (remap_did g.S.Soft.kind s _ soft steps row st _ c.args.map (Ok tt) h.answer h.map h.rest refl refl (refl, refl))
-
-pub returns-in_err-remap : goal.returns-in_err-remap
-returns-in_err-remap g c = λ s soft steps row messages words st.
-    let h = c.in_err-remap.ensures in
-    did_as g.S.Soft.kind _ _ _ _ soft steps row (handed_up _ c.in_err-remap.field-0.0 messages words c.from_residual.ensures.1)
-    (remap_refused g.S.Soft.kind s _ soft steps row st _ c.args.map (Err c.in_err-remap.field-0.0) h.answer h.map h.rest c.in_err-remap.field-0.0 refl refl (refl, refl))
+unfolding after_calls
+returns g c = λ s memory st.
+    let kind = g.S.Soft.kind in
+    let map = c.args.map in
+    elim c.match-self.branch [
+      | in-Some+in_ok-remap-in-Some w ↦
+          let h = w.in_ok-remap-in-Some.ensures in
+          rw (w.self-is, c.informed_count.ensures)
+          (map_did kind s c.args.self.now memory w.in-Some.receiver st w.in-Some.is _ (plain (Ok tt)) w.remap.new.self memory st.room (exponent_of map) (marks_of map) refl
+          (λ m a. remap_agreed kind m w.in-Some.receiver w.remap.new.self memory a (Ok tt) map h.answer h.map h.rest))
+      | in-None w ↦
+          rw (w.self-is, c.informed_count.ensures)
+          (made_did kind s c.args.self.now memory st w.in-None.is (exponent_of map) (marks_of map) w.new.result (w.new.ensures.led memory.soft.now memory.pending.now memory.bits.now).agrees)
+    ]

@@ -1,8 +1,0 @@
-use Rattle.std.proofs.Common.{decimal}
-use Rattle.session.specs.Text.{line_start}
-use Rattle.session.proofs.Lines.{one_field}
-use Rattle.session.proofs.text.push_count.Goals as goal
-
-pub returns : goal.returns
-returns c =
-    simp (c.in_ok-push-2.ensures.items, c.in_ok-push_number.ensures, c.in_ok-push.ensures.items, c.in_ok-push_start.ensures) (one_field c.args.text.now.items (line_start c.args.number c.args.letter 0) (decimal c.args.count))
