@@ -46,6 +46,7 @@ fn open<'a>(sources: Sources<'a>) -> Result<Opened<'a>, SessionFault>
 }
 
 // Does the commands one after the other, in this work memory, and appends their lines.
+#[tactic(auto, using(crate::proofs::Turns::operands_at, crate::proofs::Turns::shorter, crate::proofs::Lines::answered_small))]
 fn push_lines<'a, S: Soft + Copy>(
     text: &mut String,
     make: Make,

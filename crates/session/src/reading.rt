@@ -26,7 +26,7 @@ fn split<'a>(at: usize, count: usize, bytes: &'a [u8]) -> Result<(&'a [u8], &'a 
 }
 
 // The command with this letter, which stands at offset `at`; `sizes` are those of the map in force, if there is one.
-#[tactic(auto, unfolding(crate::specs::Commands::read_command), using(crate::proofs::Lefts::left_front, crate::proofs::Lefts::left_drop, crate::proofs::Lefts::left_left, crate::proofs::Lefts::ranks_placed))]
+#[tactic(auto, unfolding(crate::specs::Commands::read_command))]
 pub(crate) fn read_command<'a>(
     make: Make,
     sizes: Option<Sizes>,

@@ -165,6 +165,7 @@ impl<'a, S: Soft + Copy> State<'a, S> {
     }
 
     // `T`
+    #[tactic(auto, using(crate::proofs::Calling::few_informed))]
     fn take<'b>(
         &mut self,
         at: usize,

@@ -1,8 +1,7 @@
 use Rattle.std.proofs.Common.{◌<◌, length, refl, le_refl, arith, ltb-false, ltb-true}
 use Rattle.std.proofs.lemmas.Result.{on_ok_weaker}
 use Rattle.session.specs.Sessions.{nothing}
-use Rattle.session.proofs.Lines.{answered_small}
-use Rattle.session.proofs.Turns.{operands_at, shorter, going_last, going_done, between_more, lent_on}
+use Rattle.session.proofs.Turns.{going_last, going_done, between_more, lent_on}
 use Rattle.session.proofs.interpreter.push_lines.Goals as goal
 
 pub loop-rest-init : goal.loop-rest-init
@@ -14,12 +13,6 @@ loop-rest-init g c = record {
   };
   lent = record { soft = refl; pending = refl; bits = refl; soft_long = refl; pending_long = refl; bits_long = refl };
 }
-
-pub run-answer-requires : goal.run-answer-requires
-run-answer-requires g c = c.in-Ok.ensures.placed c.args.sources.session.now (operands_at _ c.loop-rest.rest.now c.loop-rest.invariant.between.going.left)
-
-pub loop-rest-smaller : goal.loop-rest-smaller
-loop-rest-smaller g c = shorter c.loop-rest.rest.now c.in-Ok.reading.rest.now (omega (arith, ltb-false)) c.in-Ok.ensures.left
 
 pub loop-rest-preserved : goal.loop-rest-preserved
 loop-rest-preserved g c =
@@ -40,6 +33,3 @@ returns-in-Err-clause-lines g c =
 
 pub returns-clause-lines : goal.returns-clause-lines
 returns-clause-lines g c = going_done g.S.Soft.kind _ _ _ _ _ _ _ _ c.loop-rest.invariant.between.going (omega (arith, ltb-true))
-
-pub invariant_of-line : goal.invariant_of-line
-invariant_of-line g c = record { ascii = answered_small c.run-answer.result _ c.in-Ok.ensures.ascii }
