@@ -30,9 +30,6 @@ module _ {S : Type 0} (kind : Kind S) (caps : ℕ → Caps) where
   took_most (one {k} {span} h) = omega (arith, pow_pos span.e)
   took_most (split {k} {m} {p} {span} h l r) = omega (arith, took_most l, took_most r, most_halves kind (caps k) span h)
 
-  pub took_bound : {k k' : ℕ} {span : Span S} → Took kind caps k span k' → k' + 3 ≤ k + 4 * 2 ^ span.e
-  took_bound {span} took = omega (arith, took_most took, pow_pos span.e)
-
   pub took_unique : {k a b : ℕ} {span : Span S} → Took kind caps k span a → Took kind caps k span b → a ≡ b
   took_unique (one h) (one h') = refl
   took_unique (one h) (split h' l r) = cc
@@ -66,9 +63,6 @@ pub data Stands {S : Type 0} (kind : Kind S) (root : Span S) (caps : ℕ → Cap
   at_end : {t : ℕ} → Took kind caps 0 root t → Stands kind root caps finished t
 
 module _ {S : Type 0} (kind : Kind S) (root : Span S) where
-  pub remaining_start : remaining kind root (at first []) ≡ 4 * 2 ^ root.e - 3
-  remaining_start = omega arith
-
   pub remaining_done : (path : List Side) → remaining kind root (done path) ≡ up kind root path
   remaining_done [] = refl
   remaining_done (left ∷ path) = refl
@@ -136,9 +130,6 @@ module _ {S : Type 0} (kind : Kind S) (root : Span S) where
 
     pub unfinished_below : {next : Next} {path : List Side} {k : ℕ} → Stands kind root caps (at next path) k → k < 4 * 2 ^ root.e - 3
     unfinished_below {next} {path} stands = omega (arith, stands_most stands, remaining_some next path)
-
-    pub finished_at_most : {t : ℕ} → Stands kind root caps finished t → t + 3 ≤ 4 * 2 ^ root.e
-    finished_at_most stands = omega (arith, took_bound kind caps (stands_took stands))
 
   module _ (caps caps' : ℕ → Caps) where
     pub begun_agree : {path : List Side} {k : ℕ} → ((i : ℕ) → i < k → caps i ≡ caps' i) → Begun kind root caps path k → Begun kind root caps' path k

@@ -1,5 +1,5 @@
 -- Each step, from what its functions promise to where the work then stands. Assumes nothing.
-use Rattle.std.proofs.Common.{◌≡◌, ℕ, suc, ◌+◌, ◌-◌, ◌*◌, ◌^◌, ◌<◌, ◌≤◌, cond, List, [], ◌∷◌, ◌++◌, length, take, drop, set, Some, None, Ok, Err, Option, Result, sym, refl, ap, ◌∙◌, subst, ap₂, arith}
+use Rattle.std.proofs.Common.{◌≡◌, ℕ, suc, ◌+◌, ◌-◌, ◌*◌, ◌^◌, ◌<◌, ◌≤◌, cond, List, [], ◌∷◌, ◌++◌, length, take, drop, set, Some, None, Ok, Err, Option, sym, refl, ap, ◌∙◌, subst, ap₂, arith}
 use Rattle.std.proofs.lemmas.List.{take_more_set, length-set, take_at, drop_at, take_all, length-drop}
 use Rattle.code.specs.declared.kinds.SpanKind.{SpanKind}
 use Rattle.code.specs.declared.faults.MapFault.{MapFault}
@@ -22,12 +22,6 @@ use Rattle.receiver.proofs.SpansAsked.{kind_marks, path_kind, path_settled, path
 use Rattle.receiver.proofs.Counts.{unsettled_some}
 use Rattle.receiver.proofs.Tops.{top_known}
 use Rattle.receiver.proofs.StepLaws.{span_done, row_there, bits_there, word_written, left_made, right_made, around_length}
-
-ok_same : {X Y : Type 0} (r : Result X Y) (a b : X) → r ≡ Ok a → r ≡ Ok b → a ≡ b
-ok_same r a b p q = cc
-
-some_same : {X : Type 0} (o : Option X) (a b : X) → o ≡ Some a → o ≡ Some b → a ≡ b
-some_same o a b p q = cc
 
 -- a later step of a span in the place of the top, and a step of one of its halves above it
 two_pushed : (outer : List Step) (last later half : Step) (steps : List Step) (below : ℕ) → take (below + 1) steps ≡ outer ++ (last ∷ []) → below ≡ length outer → below + 1 < length steps →
@@ -63,7 +57,7 @@ module _ {S : Type 0} (kind : Kind S) (n : ℕ) (marks : List ℕ) (means : Mean
   pub kind_known : length path ≤ n → (s t : ℕ) (o : Option SpanKind) → s ≡ (span_at kind root path).start → t ≡ 2 ^ (span_at kind root path).e →
       Ok o ≡ kind_answer n marks s t → o ≡ kind_of (span_at kind root path).marks
   kind_known deep s t o hs ht answered =
-      ok_same (kind_answer n marks s t) o _ (sym answered) (ap₂ (kind_answer n marks) hs ht ∙ path_kind kind n marks root is these path deep)
+      let known = ap₂ (kind_answer n marks) hs ht ∙ path_kind kind n marks root is these path deep in cc
 
   -- the map does not refuse a span of the word
   pub kind_refused : length path ≤ n → (s t : ℕ) (f : MapFault) → s ≡ (span_at kind root path).start → t ≡ 2 ^ (span_at kind root path).e →
@@ -230,10 +224,7 @@ module _ {S : Type 0} (kind : Kind S) (n : ℕ) (root : Span S) (is : Root n roo
   top_is = top_known (around kind root path) _ steps height was.pending (was.high ∙ ap suc (sym (around_length kind n root is path)))
 
   pub found_top : (step : Step) → Some step ≡ top_of height steps → step ≡ pending_of nxt (span_at kind root path)
-  found_top step found = some_same (top_of height steps) step _ (sym found) top_is
-
-  pub no_top : None ≡ top_of height steps → ⊥
-  no_top found = let never : None ≡ Some (pending_of nxt (span_at kind root path)) = found ∙ top_is in let z : ◌≡◌ {A = ℕ} 0 1 = cc in omega arith
+  found_top step found = let is = top_is in cc
 
   pub found_e : (step : Step) → Some step ≡ top_of height steps → step.e ≤ n
   found_e step found = omega (arith, ap (λ s. s.e) (found_top step found), path_e kind n root is path)

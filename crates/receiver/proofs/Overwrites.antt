@@ -1,45 +1,18 @@
 -- What a write to a part of a list leaves. Assumes nothing.
-use Rattle.std.proofs.Common.{◌≡◌, ℕ, ◌+◌, ◌-◌, ◌≤◌, List, [], ◌∷◌, ◌++◌, length, take, drop, sym, ap, ◌∙◌, ap₂, append_assoc, suc-add, zero-add, arith}
-use Rattle.std.proofs.lemmas.List.{length-append, length-take, length-drop, take-take, take_at, drop_at, take-append-le, drop-drop, drop-take, length-take-le}
+use Rattle.std.proofs.Common.{◌≡◌, ℕ, ◌+◌, ◌-◌, ◌≤◌, List, ◌++◌, length, take, drop, sym, ap, ◌∙◌, ap₂, append_assoc, arith}
+use Rattle.std.proofs.lemmas.List.{length-append, length-take, take-take, take_at, drop_at, drop-take}
+use Rattle.std.proofs.Math.Seq.{take-append-add}
 use Rattle.code.specs.Spans.{part}
 use Rattle.receiver.specs.Stacks.{overwritten}
 
 module _ {X : Type 0} where
   -- as many as a list has and some more
   pub take_beyond : (p q : List X) (k j : ℕ) → length p ≡ k → take (k + j) (p ++ q) ≡ p ++ take j q
-  take_beyond p q k j is = ap (λ m. take (m + j) (p ++ q)) (sym is) ∙ go p
-    where
-      go : (p : List X) → take (length p + j) (p ++ q) ≡ p ++ take j q
-      go [] = ap (λ m. take m q) (zero-add j)
-      go (x ∷ p) = ap (λ m. take m (x ∷ (p ++ q))) (suc-add (length p) j) ∙ ap (λ r. x ∷ r) (go p)
+  take_beyond p q k j is = ap (λ m. take (m + j) (p ++ q)) (sym is) ∙ take-append-add p q j
 
   -- the front and the rest of what begins with a known list
   pub take_front : (m : ℕ) (xs p : List X) (k : ℕ) → m ≤ k → take k xs ≡ p → take m xs ≡ take m p
   take_front m xs p k le is = sym (take-take m k xs le) ∙ ap (take m) is
-
-  pub length_overwritten : (xs ys : List X) (at : ℕ) → at + length ys ≤ length xs → length (overwritten xs at ys) ≡ length xs
-  unfolding overwritten
-  length_overwritten xs ys at room =
-      length-append (take at xs) (ys ++ drop (at + length ys) xs)
-      ∙ omega (arith, length-append ys (drop (at + length ys) xs), length-take at xs, length-drop (at + length ys) xs)
-
-  pub take_overwritten : (xs ys : List X) (at m : ℕ) → at ≤ length xs → m ≤ at → take m (overwritten xs at ys) ≡ take m xs
-  unfolding overwritten
-  take_overwritten xs ys at m room le =
-      let l : length (take at xs) ≡ at = length-take-le at xs room in
-      take-append-le m (take at xs) (ys ++ drop (at + length ys) xs) (omega arith) ∙ take-take m at xs le
-
-  pub drop_overwritten : (xs ys : List X) (at m : ℕ) → at + length ys ≤ length xs → at + length ys ≤ m → drop m (overwritten xs at ys) ≡ drop m xs
-  unfolding overwritten
-  drop_overwritten xs ys at m room le =
-      let l : length (take at xs ++ ys) ≡ at + length ys = length-append (take at xs) ys ∙ omega (arith, length-take at xs) in
-      let past : m ≡ (at + length ys) + (m - (at + length ys)) = omega arith in
-      ap (drop m) (sym (append_assoc (take at xs) ys (drop (at + length ys) xs)))
-      ∙ ap (λ k. drop k ((take at xs ++ ys) ++ drop (at + length ys) xs)) past
-      ∙ sym (drop-drop (m - (at + length ys)) (at + length ys) ((take at xs ++ ys) ++ drop (at + length ys) xs))
-      ∙ ap (drop (m - (at + length ys))) (drop_at (take at xs ++ ys) (drop (at + length ys) xs) (at + length ys) l)
-      ∙ drop-drop (m - (at + length ys)) (at + length ys) xs
-      ∙ ap (λ k. drop k xs) (sym past)
 
   -- a known front that goes on with what was written
   pub take_extended : (xs ys p : List X) (k : ℕ) → k ≤ length xs → take k xs ≡ p → take (k + length ys) (overwritten xs k ys) ≡ p ++ ys
@@ -77,9 +50,3 @@ module _ {X : Type 0} where
       ∙ take_beyond (take at xs ++ ys) (drop (at + length ys) xs) (at + length ys) (total - (at + length ys)) l
       ∙ append_assoc (take at xs) ys (take (total - (at + length ys)) (drop (at + length ys) xs))
       ∙ ap₂ (λ p q. p ++ (ys ++ q)) front back
-
-  -- what is the same from some place on is the same from each later place on
-  pub beyond_later : (xs ys : List X) (m k : ℕ) → m ≤ k → drop m xs ≡ drop m ys → drop k xs ≡ drop k ys
-  beyond_later xs ys m k le h =
-      let split : k ≡ m + (k - m) = omega arith in
-      ap (λ j. drop j xs) split ∙ sym (drop-drop (k - m) m xs) ∙ ap (drop (k - m)) h ∙ drop-drop (k - m) m ys ∙ ap (λ j. drop j ys) (sym split)

@@ -1,5 +1,5 @@
 -- What the map answers of the spans along a path. Assumes nothing.
-use Rattle.std.proofs.Common.{◌≡◌, ℕ, zero, suc, ◌+◌, ◌%◌, ◌^◌, ◌≤◌, Bool, true, false, cond, ◌||◌, eqb, List, [], ◌∷◌, length, get_or, drop, Some, None, Ok, Err, Option, sym, refl, ap, ◌∙◌, ⊎_elim, arith}
+use Rattle.std.proofs.Common.{◌≡◌, ℕ, zero, suc, ◌+◌, ◌%◌, ◌^◌, ◌≤◌, Bool, true, false, cond, ◌||◌, eqb, List, [], ◌∷◌, length, get_or, drop, Some, None, Ok, Err, Option, sym, refl, ap, ◌∙◌, ⊎_elim, arith, subst}
 use native.Mathlib.Nat.{mul-mod_left}
 use Rattle.std.proofs.lemmas.Bool.{cases_eq, eq-eqb, ne_eqb, le-leb, or_left, or_right, and_from}
 use Rattle.std.proofs.lemmas.List.{get_or-take, get_or-drop}
@@ -7,7 +7,6 @@ use Rattle.code.specs.declared.kinds.SpanKind.{SpanKind}
 use Rattle.code.specs.declared.faults.MapFault.TheVariants.{Outside}
 use Rattle.code.specs.Spans.{same, pattern, kinds, first_fit, kind_of, part, power_up_to, is_span, kind_answer, Means}
 use Rattle.code.proofs.KindPatterns.{eq_from_same}
-use Rattle.code.proofs.SpanTests.{span_within}
 use Rattle.soft.specs.Kind.{Kind}
 use Rattle.receiver.specs.Work.{Caps, allowed_kind, allowed, settled, Span, Root, Side, span_at}
 use Rattle.receiver.specs.Steps.{settled_by}
@@ -38,6 +37,10 @@ kind_marks marks k is = go kinds is
             eq_from_same marks (pattern j (length marks)) e ∙ ap (λ i. pattern i (length marks)) jk
         here false e later = later (sym (ap (λ b. cond b (Some j) (first_fit ks marks)) e) ∙ h)
 
+-- what a map means, told by its own n
+pub means_known : {k n : ℕ} {marks : List ℕ} → k ≡ n → Means k marks → Means n marks
+means_known {k} {n} {marks} is means = subst (λ m. Means m marks) is means
+
 -- a single position has a kind
 pub single_kind : (marks : List ℕ) → length marks ≡ 1 → get_or marks 0 0 ≤ 1 → kind_of marks ≡ None → ⊥
 unfolding kind_of
@@ -46,16 +49,6 @@ single_kind (zero ∷ []) long bit none = let z : ◌≡◌ {A = ℕ} 0 1 = cc i
 single_kind (suc zero ∷ []) long bit none = let z : ◌≡◌ {A = ℕ} 0 1 = cc in omega arith
 single_kind (suc (suc m) ∷ []) long bit none = omega arith
 single_kind (x ∷ (y ∷ marks)) long bit none = omega arith
-
--- a span that the map answers of lies within the word
-pub answered_within : (n : ℕ) (marks : List ℕ) (s t : ℕ) (o : Option SpanKind) → Ok o ≡ kind_answer n marks s t → s + t ≤ 2 ^ n
-answered_within n marks s t o answered = go (is_span n s t) refl
-  where
-    go : (b : Bool) → is_span n s t ≡ b → s + t ≤ 2 ^ n
-    go true e = span_within n s t e
-    go false e =
-        let never : Ok o ≡ Err Outside = answered ∙ ap (λ b. cond b (Ok (kind_of (part marks s t))) (Err Outside)) e in
-        let z : ◌≡◌ {A = ℕ} 0 1 = cc in absurd (omega arith)
 
 module _ {S : Type 0} (kind : Kind S) (n : ℕ) (marks : List ℕ) (root : Span S) (is : Root n root) (these : root.marks ≡ marks) (path : List Side) (deep : length path ≤ n) where
   -- the span at a path is a span within the word

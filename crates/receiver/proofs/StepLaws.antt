@@ -110,11 +110,6 @@ module _ {S : Type 0} (kind : Kind S) (n : ℕ) (root : Span S) (is : Root n roo
     pub row_there : part soft (base n (span_at kind root path).e) (2 ^ (span_at kind root path).e) ≡ (span_at kind root path).values
     row_there = row_known path soft was.deep was.soft_rows
 
-    pub top_there : part steps (height - 1) 1 ≡ pending_of nxt (span_at kind root path) ∷ []
-    top_there =
-        part_known steps (around kind root path) (pending_of nxt (span_at kind root path) ∷ []) [] height (height - 1) 1 was.pending
-        (around_length path ∙ omega (arith, was.high)) refl (omega (arith, was.high))
-
     pub bits_there : part bits (span_at kind root path).start (2 ^ (span_at kind root path).e) ≡ within kind nxt (span_at kind root path)
     bits_there =
         part_known bits (before kind root path) (within kind nxt (span_at kind root path)) (after kind root path) (2 ^ n) (span_at kind root path).start (2 ^ (span_at kind root path).e)

@@ -1,26 +1,6 @@
 -- The top of a stack by its place. Assumes nothing.
-use Rattle.std.proofs.Common.{◌≡◌, ℕ, zero, suc, ◌-◌, ◌<◌, ◌≤◌, List, [], ◌∷◌, ◌++◌, length, get_or, take, Some, None, sym, refl, ap, ◌∙◌, arith}
+use Rattle.std.proofs.Common.{◌≡◌, ℕ, zero, suc, ◌<◌, List, [], ◌∷◌, ◌++◌, length, take, Some, sym, refl, ap, ◌∙◌, arith}
 use Rattle.receiver.specs.Stacks.{nth, top_of}
-
-pub nth_there : {X : Type 0} (xs : List X) (i : ℕ) (d : X) → i < length xs → nth xs i ≡ Some (get_or xs i d)
-nth_there [] i d h = absurd (omega arith)
-nth_there (x ∷ xs) zero d h = refl
-nth_there (x ∷ xs) (suc i) d h = nth_there xs i d (omega arith)
-
-pub nth_past : {X : Type 0} (xs : List X) (i : ℕ) → length xs ≤ i → nth xs i ≡ None
-nth_past [] i h = refl
-nth_past (x ∷ xs) zero h = absurd (omega arith)
-nth_past (x ∷ xs) (suc i) h = nth_past xs i (omega arith)
-
-pub top_there : {X : Type 0} (len : ℕ) (xs : List X) (d : X) → (len ≡ 0 → ⊥) → len ≤ length xs → Some (get_or xs (len - 1) d) ≡ top_of len xs
-top_there zero xs d some room = absurd (some refl)
-top_there (suc len) xs d some room =
-    let p : suc len - 1 ≡ len = omega arith in
-    ap (λ i. Some (get_or xs i d)) p ∙ sym (nth_there xs len d (omega arith))
-
-pub top_past : {X : Type 0} (len : ℕ) (xs : List X) → length xs < len → None ≡ top_of len xs
-top_past zero xs past = absurd (omega arith)
-top_past (suc len) xs past = sym (nth_past xs len (omega arith))
 
 nth_take : {X : Type 0} (xs : List X) (k m : ℕ) → k < m → nth (take m xs) k ≡ nth xs k
 nth_take xs k zero h = absurd (omega arith)

@@ -70,14 +70,6 @@ module _ {S : Type 0} (kind : Kind S) (n : ℕ) (root : Span S) (caps : Caps) (s
         count = ap (λ k. k + 1) was.count ∙ sym (made_more kind root caps made start here.0 here.1.0 place);
       }
 
-  -- the allowance is used up
-  pub walked_all : (allowance made height : ℕ) (soft : List S) (steps : List Step) (row : List ℕ) → made ≡ allowance → Walked kind n root caps start made height soft steps row →
-      Coherent kind n root (walked kind root caps allowance start) height soft steps row × (made ≡ made_of kind root caps allowance start)
-  walked_all allowance made height soft steps row used was = (
-    subst (λ k. Coherent kind n root (walked kind root caps k start) height soft steps row) used was.stands,
-    was.count ∙ ap (λ k. made_of kind root caps k start) used,
-  )
-
   -- no step remains
   pub walked_out : (allowance made height : ℕ) (soft : List S) (steps : List Step) (row : List ℕ) → made ≤ allowance → height ≡ 0 → Walked kind n root caps start made height soft steps row →
       Coherent kind n root (walked kind root caps allowance start) height soft steps row × (made ≡ made_of kind root caps allowance start)

@@ -10,6 +10,7 @@ pub mod Law
 pub mod Lent
 pub mod Model
 pub mod Stacks
+pub mod Standings
 pub mod States
 pub mod Steps
 pub mod Words

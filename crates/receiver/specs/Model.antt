@@ -1,5 +1,5 @@
 -- A receiver as its user sees it, and what each call answers and leaves: cited by the contracts of the receiver's calls. Assumes nothing.
-use Rattle.std.specs.Prelude.{ℕ, zero, suc, ◌+◌, ◌-◌, ◌^◌, Bool, true, false, cond, not, ◌&&◌, List, [], ◌∷◌, ◌++◌, map, length, replicate, is_some, Some, None, Option, ◌==◌, nat_le, slice_index}
+use Rattle.std.specs.Prelude.{ℕ, ◌+◌, ◌-◌, ◌^◌, Bool, true, false, cond, not, ◌&&◌, List, [], ◌++◌, map, length, replicate, is_some, Some, None, Option, ◌==◌, nat_le, slice_index}
 use Rattle.std.specs.Option.{option_map}
 use Rattle.code.specs.Spans.{lowest_no}
 use Rattle.code.specs.Encode.{informed, informed_count}
@@ -34,12 +34,6 @@ fresh n marks = record { n = n; marks = marks; caps = ten_ten; hand = None }
 abbrev pub value_of : {S : Type 0} → Kind S → Option S → S
 value_of kind None = kind.fill
 value_of kind (Some v) = v
-
--- the value at a place of a word: that of its byte, or the fill past the last byte
-abbrev pub value_at : {S : Type 0} → Kind S → List ℕ → ℕ → S
-value_at kind [] i = kind.fill
-value_at kind (b ∷ bytes) zero = value_of kind (kind.read b)
-value_at kind (b ∷ bytes) (suc i) = value_at kind bytes i
 
 -- the values of a word: those read, then the fill
 abbrev pub values_of : {S : Type 0} → Kind S → ℕ → List ℕ → List S

@@ -7,16 +7,14 @@ use Rattle.receiver.specs.declared.answers.Advance.{Advance as Went}
 use Rattle.receiver.specs.declared.caps.Caps.{Caps as Kept}
 use Rattle.receiver.specs.declared.faults.ReceiverFault.{ReceiverFault}
 use Rattle.receiver.specs.declared.faults.ReceiverFault.TheVariants.{Length, Memory, Byte}
-use Rattle.receiver.specs.declared.memory.Memory.{Memory as Lent}
 use Rattle.receiver.specs.declared.memory.Step.{Step}
 use Rattle.receiver.specs.declared.memory.Next.TheVariants as next
 use Rattle.receiver.specs.declared.states.State.{State}
 use Rattle.receiver.specs.declared.states.State.TheVariants.{Idle, Working, Finished}
 use Rattle.receiver.specs.declared.states.Asked.TheVariants.{Word, Advance, Take}
 use Rattle.receiver.specs.Admissions.{admitted, replied, in_force}
-use Rattle.receiver.specs.Agreement.{roomy}
 use Rattle.receiver.specs.Capping.{caps_of}
-use Rattle.receiver.specs.Model.{values_of, right_buffers}
+use Rattle.receiver.specs.Model.{values_of, message_in}
 use Rattle.receiver.specs.Steps.{Walks}
 
 -- a question, and those that come after it
@@ -49,15 +47,18 @@ advance_door state room = or_else (admitted state Advance) (cond room None (Some
 abbrev pub take_door : State → Bool → Bool → Option ReceiverFault
 take_door state room right = or_else (admitted state Take) (cond room (cond right None (Some Length)) (Some Memory))
 
--- the same of a receiver with this map, this memory and buffers of these lengths
-abbrev pub take_asked : {S : Type 0} → State → ℕ → List ℕ → Lent S → ℕ → ℕ → Option ReceiverFault
-take_asked state n marks memory message word = take_door state (roomy n memory.soft.now memory.pending.now memory.bits.now) (right_buffers n marks message word)
-
 -- the steps that are kept
 abbrev pub steps_kept : State → ℕ
 steps_kept Idle = 0
 steps_kept (Working height steps) = steps
 steps_kept (Finished steps) = steps
+
+-- a take, behind its questions: the word and its message are written, the word in hand is ended, and all steps made are answered; refused, all is as it was
+pub record HandedOver (door : Option ReceiverFault) (n : ℕ) (marks row message message' word word' : List ℕ) (state state' : State) (answer : Result ℕ ReceiverFault) : Type 0 where
+  pub answered : answer ≡ replied door (steps_kept state)
+  pub written : word' ≡ in_force door (take (2 ^ n) row) word
+  pub read : message' ≡ in_force door (message_in n marks (take (2 ^ n) row)) message
+  pub ended : state' ≡ in_force door Idle state
 
 -- what is kept of a word in hand, by the height of its pending steps and the steps made
 abbrev pub kept_after : ℕ → ℕ → State

@@ -1,5 +1,5 @@
 // As many steps as an allowance and the remaining work permit.
-ghost use Rattle.std.specs.Prelude.{◌≡◌, ◌≤◌};
+ghost use Rattle.std.specs.Prelude.{◌≤◌};
 ghost use Rattle.receiver.specs.Lent.{SameLoans};
 ghost use Rattle.receiver.specs.Capping.{caps_of};
 ghost use Rattle.receiver.specs.Steps.{Roomy, Inside, Walks};
@@ -33,10 +33,14 @@ pub(crate) fn make_steps<M: Map, S: Soft + Copy>(
     ensures lent { SameLoans memory.old memory.new }
 {
     let mut height = from;
-    let mut made = 0;
-    while made < allowance && height > 0 {
+    for made in 0..allowance {
+        if height == 0 {
+            return Progress { made, height };
+        }
         height = make_step(map, caps, memory, height);
-        made += 1;
     }
-    Progress { made, height }
+    Progress {
+        made: allowance,
+        height,
+    }
 }

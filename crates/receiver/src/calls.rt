@@ -1,39 +1,33 @@
 // What each of the receiver's calls does.
-ghost use Rattle.std.specs.Prelude.{◌≡◌, ℕ, ◌+◌, ◌-◌, ◌^◌, ◌≤◌, min, ◌&&◌, T, List, length, take, Ok, Err};
+ghost use Rattle.std.specs.Prelude.{◌≡◌, ◌+◌, ◌-◌, ◌^◌, ◌≤◌, ◌&&◌, cond, Some, None, min, T, length, take, Ok, Err};
 ghost use Rattle.receiver.specs.Lent.{SameLoans};
-ghost use Rattle.receiver.specs.declared.memory.Step.{Step as Pending};
-ghost use Rattle.receiver.specs.Agreement.{Agrees, room_for, roomy};
 ghost use Rattle.receiver.specs.Admissions.{admitted, replied, in_force};
-ghost use Rattle.receiver.specs.Model.{Model, fresh, caps_fault, full_length, short_length, right_buffers, message_in};
-ghost use Rattle.receiver.specs.Words.{TakenInHand, word_door, take_asked, steps_kept, advance_door, kept_after, Goes, answer_of};
+ghost use Rattle.receiver.specs.Model.{caps_fault, right_buffers};
+ghost use Rattle.receiver.specs.Standings.{memory_fits, take_asked, TakesInHand, Advances};
+ghost use Rattle.receiver.specs.Words.{HandedOver, steps_kept, kept_after, answer_of};
 
 use crate::advancing::{Progress, make_steps};
 use crate::answers::Advance;
 use crate::caps::Caps;
 use crate::faults::ReceiverFault;
-use crate::loading::{clear_bits, load, lowest_unread};
+use crate::loading::{all_read, clear_bits, load};
 use crate::memory::{Memory, Next, Step};
 use crate::pending::put_alone;
 use crate::receiver::Receiver;
 use crate::states::{Asked, State, admit};
-use code::encode::{informed_count, message_of, position_count};
+use code::encode::{message_of, position_count, right_lengths};
 use code::map::Map;
 use soft::soft::Soft;
-use std::marker::PhantomData;
 
 // Is the memory large enough for the map's positions: 2N soft numbers, 64 pending steps and N bits?
-fn has_room<M: Map, S>(map: &M, memory: &Memory<S>) -> bool
-    ensures { result ≡ roomy (M.Map.exponent map.now) memory.now.soft.now memory.now.pending.now memory.now.bits.now }
+fn enough_memory<M: Map, S>(map: &M, memory: &Memory<S>) -> Result<(), ReceiverFault>
+    ensures { result ≡ replied (cond (memory_fits (M.Map.exponent map.now) memory.now) None (Some ReceiverFault.Memory)) tt }
 {
     let size = position_count(map);
-    memory.soft.len() >= 2 * size && memory.pending.len() >= 64 && memory.bits.len() >= size
-}
-
-// Have the message and the word a byte for each informed position and for each position?
-fn right_buffers<M: Map>(map: &M, message: usize, word: usize) -> bool
-    ensures { result ≡ right_buffers (M.Map.exponent map.now) (M.Map.marks map.now) message word }
-{
-    message == informed_count(map) && word == position_count(map)
+    if memory.soft.len() < 2 * size || memory.pending.len() < 64 || memory.bits.len() < size {
+        return Err(ReceiverFault::Memory);
+    }
+    Ok(())
 }
 
 // How many steps were made of the word in hand.
@@ -51,10 +45,9 @@ fn kept_after(progress: Progress, steps: u32) -> State
     ensures { result ≡ kept_after progress.height (min (steps + progress.made) (2 ^ 32 - 1)) }
 {
     let all = steps.saturating_add(u32::from(progress.made));
-    if progress.height == 0 {
-        State::Finished(all)
-    } else {
-        State::Working(progress.height, all)
+    match progress.height {
+        0 => State::Finished(all),
+        height => State::Working(height, all),
     }
 }
 
@@ -110,7 +103,7 @@ impl<M: Map + Copy, S: Soft + Copy> Receiver<M, S> {
         fits: bool,
     ) -> Result<(), ReceiverFault>
         requires { T fits → length bytes.now ≤ 2 ^ M.Map.exponent self.old.map }
-        ensures taken { TakenInHand S.Soft.kind (M.Map.exponent self.old.map) (word_door S.Soft.kind self.old.state fits (roomy (M.Map.exponent self.old.map) memory.old.soft.now memory.old.pending.now memory.old.bits.now) bytes.now) bytes.now memory.old.soft.now memory.new.soft.now memory.old.pending.now memory.new.pending.now memory.old.bits.now memory.new.bits.now self.old.state self.new.state result }
+        ensures taken { TakesInHand S.Soft.kind M.Map.exponent fits bytes.now self.old memory.old self.new memory.new result }
         ensures rest { (self.new.map ≡ self.old.map) × (self.new.caps ≡ self.old.caps) }
         ensures lent { SameLoans memory.old memory.new }
     {
@@ -118,12 +111,8 @@ impl<M: Map + Copy, S: Soft + Copy> Receiver<M, S> {
         if !fits {
             return Err(ReceiverFault::Length);
         }
-        if !has_room(&self.map, memory) {
-            return Err(ReceiverFault::Memory);
-        }
-        if let Some(at) = lowest_unread::<S>(bytes) {
-            return Err(ReceiverFault::Byte(at));
-        }
+        enough_memory(&self.map, memory)?;
+        all_read::<S>(bytes)?;
         let size = position_count(&self.map);
         load(memory.soft, bytes, size);
         clear_bits(memory.bits, size);
@@ -144,20 +133,15 @@ impl<M: Map + Copy, S: Soft + Copy> Receiver<M, S> {
         message: &mut [u8],
         word: &mut [u8],
     ) -> Result<u32, ReceiverFault>
-        ensures answer { result ≡ replied (take_asked self.old.state (M.Map.exponent self.old.map) (M.Map.marks self.old.map) memory.old (length message.old) (length word.old)) (steps_kept self.old.state) }
-        ensures word { word.new ≡ in_force (take_asked self.old.state (M.Map.exponent self.old.map) (M.Map.marks self.old.map) memory.old (length message.old) (length word.old)) (take (2 ^ M.Map.exponent self.old.map) memory.old.bits.now) word.old }
-        ensures message { message.new ≡ in_force (take_asked self.old.state (M.Map.exponent self.old.map) (M.Map.marks self.old.map) memory.old (length message.old) (length word.old)) (message_in (M.Map.exponent self.old.map) (M.Map.marks self.old.map) (take (2 ^ M.Map.exponent self.old.map) memory.old.bits.now)) message.old }
-        ensures state { self.new.state ≡ in_force (take_asked self.old.state (M.Map.exponent self.old.map) (M.Map.marks self.old.map) memory.old (length message.old) (length word.old)) State.Idle self.old.state }
+        ensures handed { HandedOver (take_asked M.Map.exponent M.Map.marks self.old memory.old (length message.old) (length word.old)) (M.Map.exponent self.old.map) (M.Map.marks self.old.map) memory.old.bits.now message.old message.new word.old word.new self.old.state self.new.state result }
         ensures rest { (self.new.map ≡ self.old.map) × (self.new.caps ≡ self.old.caps) }
         ensures lent { SameLoans memory.old memory.new }
         ensures kept { (memory.new.soft.now ≡ memory.old.soft.now) × (memory.new.pending.now ≡ memory.old.pending.now) × (memory.new.bits.now ≡ memory.old.bits.now) }
     {
         admit(self.state, Asked::Take)?;
-        if !has_room(&self.map, memory) {
-            return Err(ReceiverFault::Memory);
-        }
+        enough_memory(&self.map, memory)?;
         let size = position_count(&self.map);
-        if !right_buffers(&self.map, message.len(), word.len()) {
+        if !right_lengths(&self.map, message.len(), word.len()) {
             return Err(ReceiverFault::Length);
         }
         copy_front(memory, word, size);
@@ -173,14 +157,12 @@ impl<M: Map + Copy, S: Soft + Copy> Receiver<M, S> {
         memory: &mut Memory<S>,
         allowance: u16,
     ) -> Result<Advance, ReceiverFault>
-        ensures goes { Goes S.Soft.kind (M.Map.exponent self.old.map) (M.Map.marks self.old.map) self.old.caps allowance (advance_door self.old.state (roomy (M.Map.exponent self.old.map) memory.old.soft.now memory.old.pending.now memory.old.bits.now)) self.old.state self.new.state memory.old.soft.now memory.old.pending.now memory.old.bits.now memory.new.soft.now memory.new.pending.now memory.new.bits.now (answer_of result) }
+        ensures goes { Advances S.Soft.kind M.Map.exponent M.Map.marks allowance self.old memory.old self.new memory.new (answer_of result) }
         ensures rest { (self.new.map ≡ self.old.map) × (self.new.caps ≡ self.old.caps) }
         ensures lent { SameLoans memory.old memory.new }
     {
         admit(self.state, Asked::Advance)?;
-        if !has_room(&self.map, memory) {
-            return Err(ReceiverFault::Memory);
-        }
+        enough_memory(&self.map, memory)?;
         match self.state {
             State::Working(height, steps) => {
                 let caps = self.caps;

@@ -1,39 +1,46 @@
 // Taking a word in hand: its values, and no bit decided.
-ghost use Rattle.std.specs.Prelude.{◌≡◌, ℕ, ◌<◌, ◌≤◌, ◌++◌, length, drop, replicate, is_some, slice_index, slice_index_or};
+ghost use Rattle.std.specs.Prelude.{◌≡◌, ◌-◌, ◌≤◌, ◌++◌, map, length, take, drop, replicate, is_some, slice_index};
+ghost use Rattle.std.specs.Option.{option_map};
 ghost use Rattle.code.specs.Spans.{lowest_no};
-ghost use Rattle.receiver.specs.Model.{value_at};
+ghost use Rattle.receiver.specs.Admissions.{replied};
+ghost use Rattle.receiver.specs.Model.{value_of};
 
+use crate::faults::ReceiverFault;
 use crate::stack::Stack;
 use soft::soft::Soft;
 
 // The lowest place at which a byte does not read.
-pub(crate) fn lowest_unread<S: Soft + Copy>(bytes: &[u8]) -> Option<usize>
+fn lowest_unread<S: Soft + Copy>(bytes: &[u8]) -> Option<usize>
     ensures { result ≡ lowest_no (λ i. is_some (S.Soft.kind.read (slice_index bytes.now i))) 0 (length bytes.now) }
 {
     bytes.iter().position(|b| S::read(*b).is_none())
 }
 
-// The value at a place of a word: that of its byte, or the fill for one that does not read and past the last byte.
-fn value_at<S: Soft + Copy>(bytes: &[u8], i: usize) -> S
-    ensures { result ≡ value_at S.Soft.kind bytes.now i }
+// Does every byte read? Else the lowest that does not is refused.
+pub(crate) fn all_read<S: Soft + Copy>(bytes: &[u8]) -> Result<(), ReceiverFault>
+    ensures { result ≡ replied (option_map ReceiverFault.Byte (lowest_no (λ i. is_some (S.Soft.kind.read (slice_index bytes.now i))) 0 (length bytes.now))) tt }
 {
-    match bytes.get(i) {
-        Some(byte) => S::read(*byte).unwrap_or(S::fill()),
-        None => S::fill(),
+    match lowest_unread::<S>(bytes) {
+        Some(at) => Err(ReceiverFault::Byte(at)),
+        None => Ok(()),
     }
 }
 
-// Puts the values of a word of `size` positions on an empty stack.
+// Puts the values of a word of `size` positions on an empty stack: those of its bytes, then the fill. The fill stands also for a byte that does not read.
 pub(crate) fn load<S: Soft + Copy>(soft: &mut [S], bytes: &[u8], size: usize)
-    requires { size ≤ length soft.old }
-    ensures { (i : ℕ) (d : S) → i < size → slice_index_or soft.new i d ≡ value_at S.Soft.kind bytes.now i }
+    requires short { length bytes.now ≤ size }
+    requires room { size ≤ length soft.old }
+    ensures { take size soft.new ≡ map (λ b. value_of S.Soft.kind (S.Soft.kind.read b)) bytes.now ++ replicate (size - length bytes.now) S.Soft.kind.fill }
 {
     let mut stack = Stack {
         slots: soft,
         len: 0,
     };
-    for i in 0..size {
-        let _ = stack.push(value_at(bytes, i));
+    for byte in bytes {
+        let _ = stack.push(S::read(*byte).unwrap_or(S::fill()));
+    }
+    for _ in bytes.len()..size {
+        let _ = stack.push(S::fill());
     }
 }
 

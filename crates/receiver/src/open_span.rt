@@ -1,5 +1,5 @@
 // An open span of the work on a word, once it was seen to lie within the code, and memory that was seen to be large enough for it.
-ghost use Rattle.std.specs.Prelude.{◌≡◌, ◌+◌, ◌-◌, ◌*◌, ◌^◌, ◌<◌, ◌≤◌, IfSome, length, ◌≢◌};
+ghost use Rattle.std.specs.Prelude.{◌≡◌, ◌+◌, ◌-◌, ◌*◌, ◌^◌, ◌<◌, ◌≤◌, ◌≢◌, IfSome, length};
 
 use crate::memory::{Next, Step};
 use code::encode::position_count;

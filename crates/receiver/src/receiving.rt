@@ -1,13 +1,13 @@
 // The receiver's seven calls, each with the law over every list of calls that has led to it.
-ghost use Rattle.std.specs.Prelude.{◌≡◌, ℕ, ◌^◌, ◌&&◌, List, [], length, take, nat_le};
+ghost use Rattle.std.specs.Prelude.{◌≡◌, ◌^◌, ℕ, List, [], length, take};
 ghost use Rattle.receiver.specs.Lent.{SameLoans};
 ghost use Rattle.receiver.specs.declared.memory.Step.{Step as Pending};
 ghost use Rattle.receiver.specs.Admissions.{admitted, replied, in_force};
-ghost use Rattle.receiver.specs.Agreement.{roomy};
 ghost use Rattle.receiver.specs.Calls.{Call};
-ghost use Rattle.receiver.specs.Histories.{Led, Continues, Stays, Anew, plain, went_to, taken_as};
-ghost use Rattle.receiver.specs.Model.{caps_fault, full_length, short_length, right_buffers, message_in};
-ghost use Rattle.receiver.specs.Words.{TakenInHand, word_door, take_asked, steps_kept, advance_door, Goes, answer_of};
+ghost use Rattle.receiver.specs.Histories.{Led, Anew, plain, went_to, taken_as};
+ghost use Rattle.receiver.specs.Model.{caps_fault, full_length, short_length, message_in};
+ghost use Rattle.receiver.specs.Standings.{memory_fits, take_asked, TakesInHand, Advances, GoesOn, GoesOnAnyway, StaysAsItWas};
+ghost use Rattle.receiver.specs.Words.{steps_kept, answer_of};
 
 use crate::answers::Advance;
 use crate::caps::Caps;
@@ -51,7 +51,7 @@ impl<M: Map + Copy, S: Soft + Copy> Receiver<M, S> {
         ensures answer { result ≡ replied (admitted self.old.state Asked.Remap) tt }
         ensures map { self.new.map ≡ in_force (admitted self.old.state Asked.Remap) map self.old.map }
         ensures rest { (self.new.caps ≡ self.old.caps) × (self.new.state ≡ self.old.state) }
-        ensures law { (soft : List S) (steps : List Pending) (row : List ℕ) → Continues S.Soft.kind (Call.remap (M.Map.exponent map) (M.Map.marks map)) (plain result) (M.Map.exponent self.old.map) (M.Map.marks self.old.map) self.old.caps self.old.state soft steps row (M.Map.exponent self.new.map) (M.Map.marks self.new.map) self.new.caps self.new.state soft steps row }
+        ensures law { GoesOnAnyway S.Soft.kind M.Map.exponent M.Map.marks (Call.remap (M.Map.exponent map) (M.Map.marks map)) (plain result) self.old self.new }
     {
         // that the map means a list of marks
         let _n = map.n();
@@ -63,18 +63,18 @@ impl<M: Map + Copy, S: Soft + Copy> Receiver<M, S> {
         ensures answer { result ≡ replied (caps_fault first second) tt }
         ensures caps { self.new.caps ≡ in_force (caps_fault first second) (record { first = first; second = second }) self.old.caps }
         ensures rest { (self.new.map ≡ self.old.map) × (self.new.state ≡ self.old.state) }
-        ensures law { (soft : List S) (steps : List Pending) (row : List ℕ) → Continues S.Soft.kind (Call.set_caps first second) (plain result) (M.Map.exponent self.old.map) (M.Map.marks self.old.map) self.old.caps self.old.state soft steps row (M.Map.exponent self.new.map) (M.Map.marks self.new.map) self.new.caps self.new.state soft steps row }
+        ensures law { GoesOnAnyway S.Soft.kind M.Map.exponent M.Map.marks (Call.set_caps first second) (plain result) self.old self.new }
     {
         self.put_caps(first, second)
     }
 
     // Takes a word of N bytes in hand.
     pub fn word(&mut self, memory: &mut Memory<S>, bytes: &[u8]) -> Result<(), ReceiverFault>
-        ensures taken { TakenInHand S.Soft.kind (M.Map.exponent self.old.map) (word_door S.Soft.kind self.old.state (full_length (M.Map.exponent self.old.map) (length bytes.now)) (roomy (M.Map.exponent self.old.map) memory.old.soft.now memory.old.pending.now memory.old.bits.now) bytes.now) bytes.now memory.old.soft.now memory.new.soft.now memory.old.pending.now memory.new.pending.now memory.old.bits.now memory.new.bits.now self.old.state self.new.state result }
+        ensures taken { TakesInHand S.Soft.kind M.Map.exponent (full_length (M.Map.exponent self.old.map) (length bytes.now)) bytes.now self.old memory.old self.new memory.new result }
         ensures rest { (self.new.map ≡ self.old.map) × (self.new.caps ≡ self.old.caps) }
         ensures lent { SameLoans memory.old memory.new }
-        ensures law { Continues S.Soft.kind (Call.word (roomy (M.Map.exponent self.old.map) memory.old.soft.now memory.old.pending.now memory.old.bits.now) bytes.now) (plain result) (M.Map.exponent self.old.map) (M.Map.marks self.old.map) self.old.caps self.old.state memory.old.soft.now memory.old.pending.now memory.old.bits.now (M.Map.exponent self.new.map) (M.Map.marks self.new.map) self.new.caps self.new.state memory.new.soft.now memory.new.pending.now memory.new.bits.now }
-        ensures stays { Stays S.Soft.kind (Call.word (roomy (M.Map.exponent self.old.map) memory.old.soft.now memory.old.pending.now memory.old.bits.now) bytes.now) (plain result) (M.Map.exponent self.old.map) (M.Map.marks self.old.map) self.old.caps self.old.state (M.Map.exponent self.new.map) (M.Map.marks self.new.map) self.new.caps self.new.state }
+        ensures law { GoesOn S.Soft.kind M.Map.exponent M.Map.marks (Call.word (memory_fits (M.Map.exponent self.old.map) memory.old) bytes.now) (plain result) self.old memory.old self.new memory.new }
+        ensures stays { StaysAsItWas S.Soft.kind M.Map.exponent M.Map.marks (Call.word (memory_fits (M.Map.exponent self.old.map) memory.old) bytes.now) (plain result) self.old self.new }
     {
         // that the map means a list of marks
         let _n = self.map.n();
@@ -84,11 +84,11 @@ impl<M: Map + Copy, S: Soft + Copy> Receiver<M, S> {
 
     // Takes a word of 1 to N bytes in hand; the fill stands for the positions that were not sent.
     pub fn short_word(&mut self, memory: &mut Memory<S>, bytes: &[u8]) -> Result<(), ReceiverFault>
-        ensures taken { TakenInHand S.Soft.kind (M.Map.exponent self.old.map) (word_door S.Soft.kind self.old.state (short_length (M.Map.exponent self.old.map) (length bytes.now)) (roomy (M.Map.exponent self.old.map) memory.old.soft.now memory.old.pending.now memory.old.bits.now) bytes.now) bytes.now memory.old.soft.now memory.new.soft.now memory.old.pending.now memory.new.pending.now memory.old.bits.now memory.new.bits.now self.old.state self.new.state result }
+        ensures taken { TakesInHand S.Soft.kind M.Map.exponent (short_length (M.Map.exponent self.old.map) (length bytes.now)) bytes.now self.old memory.old self.new memory.new result }
         ensures rest { (self.new.map ≡ self.old.map) × (self.new.caps ≡ self.old.caps) }
         ensures lent { SameLoans memory.old memory.new }
-        ensures law { Continues S.Soft.kind (Call.short_word (roomy (M.Map.exponent self.old.map) memory.old.soft.now memory.old.pending.now memory.old.bits.now) bytes.now) (plain result) (M.Map.exponent self.old.map) (M.Map.marks self.old.map) self.old.caps self.old.state memory.old.soft.now memory.old.pending.now memory.old.bits.now (M.Map.exponent self.new.map) (M.Map.marks self.new.map) self.new.caps self.new.state memory.new.soft.now memory.new.pending.now memory.new.bits.now }
-        ensures stays { Stays S.Soft.kind (Call.short_word (roomy (M.Map.exponent self.old.map) memory.old.soft.now memory.old.pending.now memory.old.bits.now) bytes.now) (plain result) (M.Map.exponent self.old.map) (M.Map.marks self.old.map) self.old.caps self.old.state (M.Map.exponent self.new.map) (M.Map.marks self.new.map) self.new.caps self.new.state }
+        ensures law { GoesOn S.Soft.kind M.Map.exponent M.Map.marks (Call.short_word (memory_fits (M.Map.exponent self.old.map) memory.old) bytes.now) (plain result) self.old memory.old self.new memory.new }
+        ensures stays { StaysAsItWas S.Soft.kind M.Map.exponent M.Map.marks (Call.short_word (memory_fits (M.Map.exponent self.old.map) memory.old) bytes.now) (plain result) self.old self.new }
     {
         // that the map means a list of marks
         let _n = self.map.n();
@@ -102,11 +102,11 @@ impl<M: Map + Copy, S: Soft + Copy> Receiver<M, S> {
         memory: &mut Memory<S>,
         allowance: u16,
     ) -> Result<Advance, ReceiverFault>
-        ensures goes { Goes S.Soft.kind (M.Map.exponent self.old.map) (M.Map.marks self.old.map) self.old.caps allowance (advance_door self.old.state (roomy (M.Map.exponent self.old.map) memory.old.soft.now memory.old.pending.now memory.old.bits.now)) self.old.state self.new.state memory.old.soft.now memory.old.pending.now memory.old.bits.now memory.new.soft.now memory.new.pending.now memory.new.bits.now (answer_of result) }
+        ensures goes { Advances S.Soft.kind M.Map.exponent M.Map.marks allowance self.old memory.old self.new memory.new (answer_of result) }
         ensures rest { (self.new.map ≡ self.old.map) × (self.new.caps ≡ self.old.caps) }
         ensures lent { SameLoans memory.old memory.new }
-        ensures law { Continues S.Soft.kind (Call.advance (roomy (M.Map.exponent self.old.map) memory.old.soft.now memory.old.pending.now memory.old.bits.now) allowance) (went_to (answer_of result)) (M.Map.exponent self.old.map) (M.Map.marks self.old.map) self.old.caps self.old.state memory.old.soft.now memory.old.pending.now memory.old.bits.now (M.Map.exponent self.new.map) (M.Map.marks self.new.map) self.new.caps self.new.state memory.new.soft.now memory.new.pending.now memory.new.bits.now }
-        ensures stays { Stays S.Soft.kind (Call.advance (roomy (M.Map.exponent self.old.map) memory.old.soft.now memory.old.pending.now memory.old.bits.now) allowance) (went_to (answer_of result)) (M.Map.exponent self.old.map) (M.Map.marks self.old.map) self.old.caps self.old.state (M.Map.exponent self.new.map) (M.Map.marks self.new.map) self.new.caps self.new.state }
+        ensures law { GoesOn S.Soft.kind M.Map.exponent M.Map.marks (Call.advance (memory_fits (M.Map.exponent self.old.map) memory.old) allowance) (went_to (answer_of result)) self.old memory.old self.new memory.new }
+        ensures stays { StaysAsItWas S.Soft.kind M.Map.exponent M.Map.marks (Call.advance (memory_fits (M.Map.exponent self.old.map) memory.old) allowance) (went_to (answer_of result)) self.old self.new }
     {
         // that the map has at most 1024 positions
         let _n = self.map.n();
@@ -120,15 +120,15 @@ impl<M: Map + Copy, S: Soft + Copy> Receiver<M, S> {
         message: &mut [u8],
         word: &mut [u8],
     ) -> Result<u32, ReceiverFault>
-        ensures answer { result ≡ replied (take_asked self.old.state (M.Map.exponent self.old.map) (M.Map.marks self.old.map) memory.old (length message.old) (length word.old)) (steps_kept self.old.state) }
-        ensures word { word.new ≡ in_force (take_asked self.old.state (M.Map.exponent self.old.map) (M.Map.marks self.old.map) memory.old (length message.old) (length word.old)) (take (2 ^ M.Map.exponent self.old.map) memory.old.bits.now) word.old }
-        ensures message { message.new ≡ in_force (take_asked self.old.state (M.Map.exponent self.old.map) (M.Map.marks self.old.map) memory.old (length message.old) (length word.old)) (message_in (M.Map.exponent self.old.map) (M.Map.marks self.old.map) (take (2 ^ M.Map.exponent self.old.map) memory.old.bits.now)) message.old }
-        ensures state { self.new.state ≡ in_force (take_asked self.old.state (M.Map.exponent self.old.map) (M.Map.marks self.old.map) memory.old (length message.old) (length word.old)) State.Idle self.old.state }
+        ensures answer { result ≡ replied (take_asked M.Map.exponent M.Map.marks self.old memory.old (length message.old) (length word.old)) (steps_kept self.old.state) }
+        ensures word { word.new ≡ in_force (take_asked M.Map.exponent M.Map.marks self.old memory.old (length message.old) (length word.old)) (take (2 ^ M.Map.exponent self.old.map) memory.old.bits.now) word.old }
+        ensures message { message.new ≡ in_force (take_asked M.Map.exponent M.Map.marks self.old memory.old (length message.old) (length word.old)) (message_in (M.Map.exponent self.old.map) (M.Map.marks self.old.map) (take (2 ^ M.Map.exponent self.old.map) memory.old.bits.now)) message.old }
+        ensures state { self.new.state ≡ in_force (take_asked M.Map.exponent M.Map.marks self.old memory.old (length message.old) (length word.old)) State.Idle self.old.state }
         ensures rest { (self.new.map ≡ self.old.map) × (self.new.caps ≡ self.old.caps) }
         ensures lent { SameLoans memory.old memory.new }
         ensures kept { (memory.new.soft.now ≡ memory.old.soft.now) × (memory.new.pending.now ≡ memory.old.pending.now) × (memory.new.bits.now ≡ memory.old.bits.now) }
-        ensures law { Continues S.Soft.kind (Call.take (roomy (M.Map.exponent self.old.map) memory.old.soft.now memory.old.pending.now memory.old.bits.now) (length message.old) (length word.old)) (taken_as result message.new word.new) (M.Map.exponent self.old.map) (M.Map.marks self.old.map) self.old.caps self.old.state memory.old.soft.now memory.old.pending.now memory.old.bits.now (M.Map.exponent self.new.map) (M.Map.marks self.new.map) self.new.caps self.new.state memory.new.soft.now memory.new.pending.now memory.new.bits.now }
-        ensures stays { Stays S.Soft.kind (Call.take (roomy (M.Map.exponent self.old.map) memory.old.soft.now memory.old.pending.now memory.old.bits.now) (length message.old) (length word.old)) (taken_as result message.new word.new) (M.Map.exponent self.old.map) (M.Map.marks self.old.map) self.old.caps self.old.state (M.Map.exponent self.new.map) (M.Map.marks self.new.map) self.new.caps self.new.state }
+        ensures law { GoesOn S.Soft.kind M.Map.exponent M.Map.marks (Call.take (memory_fits (M.Map.exponent self.old.map) memory.old) (length message.old) (length word.old)) (taken_as result message.new word.new) self.old memory.old self.new memory.new }
+        ensures stays { StaysAsItWas S.Soft.kind M.Map.exponent M.Map.marks (Call.take (memory_fits (M.Map.exponent self.old.map) memory.old) (length message.old) (length word.old)) (taken_as result message.new word.new) self.old self.new }
         ensures anew { Anew S.Soft.kind (M.Map.exponent self.new.map) (M.Map.marks self.new.map) self.new.caps self.new.state }
     {
         // that the map means a list of marks
@@ -141,7 +141,7 @@ impl<M: Map + Copy, S: Soft + Copy> Receiver<M, S> {
         ensures answer { result ≡ replied (admitted self.old.state Asked.Drop) tt }
         ensures state { self.new.state ≡ in_force (admitted self.old.state Asked.Drop) State.Idle self.old.state }
         ensures rest { (self.new.map ≡ self.old.map) × (self.new.caps ≡ self.old.caps) }
-        ensures law { (soft : List S) (steps : List Pending) (row : List ℕ) → Continues S.Soft.kind (Call.drop_word) (plain result) (M.Map.exponent self.old.map) (M.Map.marks self.old.map) self.old.caps self.old.state soft steps row (M.Map.exponent self.new.map) (M.Map.marks self.new.map) self.new.caps self.new.state soft steps row }
+        ensures law { GoesOnAnyway S.Soft.kind M.Map.exponent M.Map.marks (Call.drop_word) (plain result) self.old self.new }
         ensures anew { Anew S.Soft.kind (M.Map.exponent self.new.map) (M.Map.marks self.new.map) self.new.caps self.new.state }
     {
         // that the map means a list of marks

@@ -1,5 +1,5 @@
 // What a step does to the row, the bits and the pending steps of an open span.
-ghost use Rattle.std.specs.Prelude.{◌≡◌, ◌+◌, ◌-◌, ◌*◌, ◌^◌, ◌<◌, ◌≤◌, length, take, drop, ◌≢◌};
+ghost use Rattle.std.specs.Prelude.{◌≡◌, ◌+◌, ◌-◌, ◌*◌, ◌^◌, ◌<◌, ◌≤◌, ◌≢◌, length, take, drop};
 ghost use Rattle.code.specs.Spans.{part, pattern};
 ghost use Rattle.cancellation.specs.Cancel.{cancel};
 ghost use Rattle.receiver.specs.Lent.{SameLoans, memory_of};
@@ -14,7 +14,8 @@ use cancellation::settle::settle;
 use code::kinds::SpanKind;
 use soft::soft::Soft;
 
-// The row of a right half, after that of its span, which begins at `base`, with the bits of the left half, which begin at `start` and are only read.
+// The row of a right half, after that of its span, which begins at `base`, with the bits of the left half, which begin at `start`.
+// They are only read, and lent as `&mut`: of a part that a struct lends as `&` the check keeps no record that it stayed as it was.
 fn right_row<S: Soft + Copy>(
     soft: &mut [S],
     base: usize,

@@ -1,8 +1,9 @@
 // A stack in memory that somebody else lends, written once for every element.
-ghost use Rattle.std.specs.Prelude.{◌≡◌, ◌+◌, ◌-◌, ◌≤◌, length, is_ok, if◌then◌else◌, nat_lt, slice_set};
+ghost use Rattle.std.specs.Prelude.{◌≡◌, ◌+◌, ◌-◌, if◌then◌else◌, length, is_ok, nat_lt, slice_set};
 ghost use Rattle.receiver.specs.Stacks.{top_of};
 
 // The first `len` slots are on the stack, the last of them at its top.
+// Slots with a length beside them, and no library vector: those own their memory, and a receiver's is lent at each call.
 #[derive(Drop)]
 pub struct Stack<'a, E> {
     pub(crate) slots: &'a mut [E],
@@ -24,6 +25,7 @@ impl<'a, E: Copy> Stack<'a, E> {
         ensures len { self.new.len ≡ (if is_ok result then self.old.len + 1 else self.old.len) }
         ensures same { self.new.slots.ghost_name ≡ self.old.slots.ghost_name }
     {
+        // Written by its index: of `get_mut` on a part that is lent to a struct the check keeps no record of what was written.
         let len = self.len;
         if len >= self.slots.len() {
             return Err(x);
@@ -40,14 +42,12 @@ impl<'a, E: Copy> Stack<'a, E> {
         ensures len { self.new.len ≡ self.old.len - 1 }
         ensures same { self.new.slots.ghost_name ≡ self.old.slots.ghost_name }
     {
-        let len = self.len;
-        if len == 0 {
+        let below = self.len.checked_sub(1)?;
+        self.len = below;
+        // Read by its index: of `get` on a part that is lent to a struct the check keeps no record that all stayed as it was.
+        if below >= self.slots.len() {
             return None;
         }
-        self.len = len - 1;
-        if len > self.slots.len() {
-            return None;
-        }
-        Some(self.slots[len - 1])
+        Some(self.slots[below])
     }
 }

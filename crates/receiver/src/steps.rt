@@ -63,6 +63,7 @@ pub(crate) fn make_step<M: Map, S: Soft + Copy>(
         pending: memory.pending,
         bits: memory.bits,
     };
+    // A match, and no closure: what comes next is plain data in lent memory.
     match step.next {
         Next::First => first_step(map, caps, &mut span),
         Next::Second => {

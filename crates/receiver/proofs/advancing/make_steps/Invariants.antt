@@ -1,4 +1,4 @@
-use Rattle.std.proofs.Common.{◌≡◌, ◌-◌, ◌^◌, ◌≤◌, drop}
+use Rattle.std.proofs.Common.{◌≡◌, ◌^◌, ◌≤◌, drop}
 use Rattle.receiver.specs.Capping.{caps_of}
 use Rattle.receiver.specs.Coherence.{Coherent}
 use Rattle.receiver.specs.Lent.{SameLoans}
@@ -10,10 +10,11 @@ abbrev pub invariant-loop-made : goal.invariant-loop-made
 invariant-loop-made g l =
     let kind = g.S.Soft.kind in
     let n = g.M.Map.exponent l.map in
-    ((root : Span g.row.S.Denot) (place : Place) → Root n root → root.marks ≡ g.M.Map.marks l.map →
-    Coherent kind n root place l.from l.initial.memory.soft.now l.initial.memory.pending.now l.initial.memory.bits.now →
-    Walked kind n root (caps_of l.caps) place l.made l.height l.memory.soft.now l.memory.pending.now l.memory.bits.now)
-    × (l.height ≤ 64) × (l.made ≤ l.allowance) × (drop (2 ^ n) l.memory.bits.now ≡ drop (2 ^ n) l.initial.memory.bits.now) × SameLoans l.initial.memory l.memory
-
-abbrev pub decreases-loop-made : goal.decreases-loop-made
-decreases-loop-made g l = l.allowance - l.made
+    record {
+      walked : (root : Span g.row.S.Denot) (place : Place) → Root n root → root.marks ≡ g.M.Map.marks l.map →
+          Coherent kind n root place l.from l.initial.memory.soft.now l.initial.memory.pending.now l.initial.memory.bits.now →
+          Walked kind n root (caps_of l.caps) place l.made l.height l.memory.soft.now l.memory.pending.now l.memory.bits.now;
+      few : l.height ≤ 64;
+      beyond : drop (2 ^ n) l.memory.bits.now ≡ drop (2 ^ n) l.initial.memory.bits.now;
+      lent : SameLoans l.initial.memory l.memory;
+    }

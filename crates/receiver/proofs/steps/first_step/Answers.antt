@@ -6,21 +6,21 @@ use Rattle.receiver.specs.Steps.{base, settled_by, with_half}
 use Rattle.receiver.specs.Work.{first, at, span_at, stepped}
 use Rattle.receiver.proofs.Counts.{unsettled_some}
 use Rattle.receiver.proofs.Made.{coherent_as, kind_known, kind_refused, settle_follows, left_follows}
-use Rattle.receiver.proofs.SpansAsked.{path_split}
+use Rattle.receiver.proofs.SpansAsked.{means_known, path_split}
 use Rattle.receiver.proofs.steps.first_step.Goals as goal
 
 pub returns-in_default-clause-follows : goal.returns-in_default-clause-follows
 returns-in_default-clause-follows g c = λ root path is these top was.
     let n = g.M.Map.exponent c.args.map.now in
     let marks = g.M.Map.marks c.args.map.now in
-    let means : Means n marks = subst (λ k. Means k marks) c.n-n.ensures.value c.n-n.ensures.means in
+    let means : Means n marks = means_known c.n-n.ensures.value c.n-n.ensures.means in
     absurd (kind_refused g.S.Soft.kind n marks means root is these path was.deep _ _ _ (ap (λ s. s.start) top) (c.length.ensures ∙ ap (λ s. 2 ^ s.e) top) c.in_default.ensures)
 
 pub returns-in-Some-clause-follows : goal.returns-in-Some-clause-follows
 returns-in-Some-clause-follows g c = λ root path is these top was.
     let n = g.M.Map.exponent c.args.map.now in
     let marks = g.M.Map.marks c.args.map.now in
-    let means : Means n marks = subst (λ k. Means k marks) c.n-n.ensures.value c.n-n.ensures.means in
+    let means : Means n marks = means_known c.n-n.ensures.value c.n-n.ensures.means in
     let span = c.args.span.now in
     let caps = caps_of c.args.caps in
     let o = kind_known g.S.Soft.kind n marks means root is these path was.deep _ _ _ (ap (λ s. s.start) top) (c.length.ensures ∙ ap (λ s. 2 ^ s.e) top) c.in-Ok.ensures in
@@ -33,7 +33,7 @@ pub returns-in-None-clause-follows : goal.returns-in-None-clause-follows
 returns-in-None-clause-follows g c = λ root path is these top was.
     let n = g.M.Map.exponent c.args.map.now in
     let marks = g.M.Map.marks c.args.map.now in
-    let means : Means n marks = subst (λ k. Means k marks) c.n-n.ensures.value c.n-n.ensures.means in
+    let means : Means n marks = means_known c.n-n.ensures.value c.n-n.ensures.means in
     let span = c.args.span.now in
     let caps = caps_of c.args.caps in
     let o = kind_known g.S.Soft.kind n marks means root is these path was.deep _ _ _ (ap (λ s. s.start) top) (c.length.ensures ∙ ap (λ s. 2 ^ s.e) top) c.in-Ok.ensures in

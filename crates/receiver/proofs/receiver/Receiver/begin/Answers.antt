@@ -1,32 +1,29 @@
-use Rattle.std.proofs.Common.{◌≡◌, [], ◌∷◌, take, None, sym, refl, ap, ◌∙◌, arith, rules}
+use Rattle.std.proofs.Common.{◌≡◌, ◌-◌, [], ◌∷◌, ◌++◌, map, length, replicate, subst, take, None, ap, ◌∙◌, arith, rules}
 use Rattle.std.proofs.lemmas.List.{take_more_set}
 use Rattle.receiver.specs.declared.memory.Next.TheVariants as next
 use Rattle.receiver.specs.Agreement.{roomy}
+use Rattle.receiver.specs.Model.{value_of}
 use Rattle.receiver.specs.Words.{word_door}
-use Rattle.receiver.proofs.Loads.{loaded}
-use Rattle.receiver.proofs.Rooms.{room_found, true_holds}
+use Rattle.std.proofs.lemmas.Float.{T_from_true}
+use Rattle.receiver.proofs.Rooms.{room_answered}
 use Rattle.receiver.proofs.receiver.Receiver.begin.Goals as goal
 
-pub returns : goal.returns
-returns g c =
+pub returns-clause-taken : goal.returns-clause-taken
+returns-clause-taken g c =
     let kind = g.S.Soft.kind in
     let n = g.M.Map.exponent c.args.self.now.map in
     let soft = c.args.memory.now.soft.now in
     let steps = c.args.memory.now.pending.now in
     let bits = c.args.memory.now.bits.now in
     let door : word_door kind c.args.self.now.state c.args.fits (roomy n soft steps bits) c.args.bytes.now ≡ None = search rules in
-    let room = room_found n soft steps bits (sym c.if-not-has_room.ensures) in
-    let fits = c.requires (true_holds c.args.fits c.if-not-fits.false) in
+    let room = room_answered n soft steps bits c.in_ok-enough_memory.ensures in
+    let fits = c.requires (T_from_true c.args.fits c.if-not-fits.false) in
     let size = c.position_count-size.ensures.value in
     record {
-      taken = record {
-        answered = search rules;
-        working = search rules;
-        bits = search rules;
-        values = λ e. loaded kind n c.args.bytes.now c.load.new.soft fits (omega (arith, room.soft_room, c.load.auto.soft)) (λ i d h. c.load.ensures i d (omega (arith, size)));
-        first = λ e. ap (take 1) c.put_alone.ensures ∙ take_more_set steps 0 _ (omega (arith, room.step_room)) ∙ ap (λ k. record { next = next.First; start = 0; e = k } ∷ []) c.n.ensures.value;
-        kept = search rules;
-      };
-      rest = (refl, refl);
-      lent = search rules;
+      answered = search rules;
+      working = search rules;
+      bits = search rules;
+      values = λ e. subst (λ k. take k c.load.new.soft ≡ map (λ b. value_of kind (kind.read b)) c.args.bytes.now ++ replicate (k - length c.args.bytes.now) kind.fill) size c.load.ensures;
+      first = λ e. ap (take 1) c.put_alone.ensures ∙ take_more_set steps 0 _ (omega (arith, room.step_room)) ∙ ap (λ k. record { next = next.First; start = 0; e = k } ∷ []) c.n.ensures.value;
+      kept = search rules;
     }

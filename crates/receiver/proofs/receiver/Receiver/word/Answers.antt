@@ -1,9 +1,10 @@
-use Rattle.std.proofs.Common.{eqb, length, refl, ap, subst}
+use Rattle.std.proofs.Common.{eqb, length, refl, ap}
 use Rattle.code.specs.Spans.{Means}
 use Rattle.receiver.specs.Calls.{word}
 use Rattle.receiver.specs.Model.{full_length}
 use Rattle.receiver.proofs.Leads.{word_continues}
 use Rattle.receiver.proofs.Refines.{full_fits}
+use Rattle.receiver.proofs.SpansAsked.{means_known}
 use Rattle.receiver.proofs.receiver.Receiver.word.Goals as goal
 
 pub returns : goal.returns
@@ -11,7 +12,7 @@ returns g c =
     let map = c.args.self.now.map in
     let n = g.M.Map.exponent map in
     let bytes = c.args.bytes.now in
-    let means : Means n (g.M.Map.marks map) = subst (λ k. Means k (g.M.Map.marks map)) c.n-n.ensures.value c.n-n.ensures.means in
+    let means : Means n (g.M.Map.marks map) = means_known c.n-n.ensures.value c.n-n.ensures.means in
     let all = word_continues g.S.Soft.kind g.S.Soft.laws g.M.Map.exponent g.M.Map.marks map _ _ _ full_length word _ bytes _ _ _ _ _ _ _ _ _ (λ room m. refl) (λ room. tt)
     means (full_fits n (length bytes)) (ap (eqb (length bytes)) c.position_count.ensures.value) c.begin.ensures.rest c.begin.ensures.taken in
     record { taken = all.0; rest = c.begin.ensures.rest; lent = c.begin.ensures.lent; law = all.1; stays = all.2 }
