@@ -64,6 +64,7 @@ fn push_lines<'a, S: Soft + Copy>(
     let mut word = [0u8; 1024];
     let mut number = 0;
     let mut rest = commands;
+    // Kept as a `while let` with a count beside it: where the next command begins is known only once this one was read.
     while let [letter, operands @ ..] = rest {
         let at = sources.session.len() - rest.len();
         let letter = *letter;
@@ -114,6 +115,7 @@ fn push_session<'a>(
     };
     let pending = &mut [idle; 64];
     let bits = &mut [0u8; 1024];
+    // Each arm makes its own soft numbers: of an array of a type parameter it is not proved that its size fits.
     match header.number {
         Number::Whole => {
             let soft = &mut [Whole::fill(); 2048];

@@ -134,7 +134,7 @@ impl<'a, S: Soft + Copy> State<'a, S> {
         Ok(Answer::Nothing)
     }
 
-    // `V`
+    // `V`. Kept beside `W`: one function for both would need a flag that says which of the receiver's calls is meant.
     fn short_word(
         &mut self,
         at: usize,
