@@ -1,5 +1,5 @@
 -- The commands of a session one after the other, over plain values.
-use Rattle.std.proofs.Common.{◌≡◌, ℕ, zero, suc, ◌+◌, ◌-◌, ◌<◌, ◌≤◌, List, [], ◌∷◌, ◌++◌, length, get_or, take, drop, Ok, Err, Result, refl, ap, ◌∙◌, append_assoc, add-one, arith}
+use Rattle.std.proofs.Common.{◌≡◌, ℕ, zero, suc, ◌+◌, ◌-◌, ◌<◌, ◌≤◌, List, [], ◌∷◌, ◌++◌, length, get_or, take, drop, Ok, Err, Result, refl, ap, ◌∙◌, append_assoc, add-one, arith, length-drop}
 use Rattle.std.proofs.lemmas.List.{append-nil, drop-drop, take_rest}
 use Rattle.session.specs.declared.commands.Make.{Make}
 use Rattle.session.specs.declared.faults.SessionFault.{SessionFault}
@@ -11,8 +11,8 @@ use Rattle.session.specs.Sessions.{InForce, Done, perform, answer_line, sizes_in
 use Rattle.receiver.specs.declared.memory.Memory.{Memory}
 use Rattle.receiver.specs.Lent.{SameLoans}
 use Rattle.session.specs.declared.state.State.{State}
-use Rattle.session.specs.States.{Placed, Left, Stands, Did}
-use Rattle.session.proofs.Lefts.{left_drop, left_left, fine_command}
+use Rattle.session.specs.States.{Left, Stands, Did}
+use Rattle.session.proofs.Lefts.{left_drop, left_left}
 
 -- the text so far and the lines that are left are the whole text
 pub record Going {S : Type 0} (kind : Kind S) (make : Make) (session shelf : List ℕ) (whole text rest : List ℕ) (number : ℕ) (s : InForce S) : Type 0 where
@@ -43,45 +43,39 @@ module _ {S : Type 0} (kind : Kind S) (most : ℕ) (make : Make) (shelf : List �
   lines_last f next e n = rw (n, ← e, lines_from)
 
 -- the operands of a command stand one byte after its letter
-pub after_letter : (session : List ℕ) (letter : ℕ) (bytes : List ℕ) → Left session (letter ∷ bytes) → bytes ≡ drop (length session - suc (length bytes) + 1) session
-after_letter session letter bytes l = ap (drop 1) l.1 ∙ drop-drop 1 (length session - suc (length bytes)) session
+pub operands_at : (session rest : List ℕ) → Left session rest → take (length rest - 1) (drop 1 rest) ≡ drop (length session - length rest + 1) session
+operands_at session rest l = take_rest rest 1 ∙ (ap (drop 1) l.1 ∙ drop-drop 1 (length session - length rest) session)
+
+-- a command takes a byte or more
+pub shorter : (rest after : List ℕ) → 0 < length rest → Left (take (length rest - 1) (drop 1 rest)) after → length after < length rest
+shorter rest after some l = omega (arith, l.0, ap length (take_rest rest 1), length-drop 1 rest)
 
 -- a command that was done leads to the next
 pub going_more : {S : Type 0} (kind : Kind S) (make : Make) (session shelf whole text rest : List ℕ) (number : ℕ) (s : InForce S) → Going kind make session shelf whole text rest number s →
     0 < length rest → (r : Read) (next : List ℕ) (done : Done S) →
     Ok r ≡ read_command make (sizes_in s.receiver) (length session - length rest) (get_or rest 0 0) (take (length rest - 1) (drop 1 rest)) →
+    Left (take (length rest - 1) (drop 1 rest)) r.rest →
     done ≡ perform kind shelf (length session - length rest) r.request s → next ≡ text ++ answer_line number (get_or rest 0 0) done.answer →
     Going kind make session shelf whole next r.rest (number + 1) done.after
-going_more kind make session shelf whole text [] number s g some r next done e d n = absurd (omega arith)
-going_more kind make session shelf whole text (letter ∷ bytes) number s g some r next done e d n = go g.most g.enough g.lines
+going_more kind make session shelf whole text [] number s g some r next done e l d n = absurd (omega arith)
+going_more kind make session shelf whole text (letter ∷ bytes) number s g some r next done e l d n = go g.most g.enough g.lines
   where
     read : Ok r ≡ read_command make (sizes_in s.receiver) (length session - suc (length bytes)) letter bytes
     read = rw (take_rest (letter ∷ bytes) 1) at e
 
-    fine : Left bytes r.rest × Placed session (length session - suc (length bytes)) r.request
-    fine = fine_command session make (sizes_in s.receiver) (length session - suc (length bytes)) letter bytes (after_letter session letter bytes g.left) r read
+    after : Left bytes r.rest
+    after = rw (take_rest (letter ∷ bytes) 1) at l
 
     go : (most : ℕ) → suc (length bytes) ≤ most → text ++ lines_from kind most make shelf (length session) number (letter ∷ bytes) s ≡ whole →
         Going kind make session shelf whole next r.rest (number + 1) done.after
     go zero h l = absurd (omega arith)
     go (suc most) h l = record {
       most = most;
-      enough = omega (arith, fine.0.0);
+      enough = omega (arith, after.0);
       lines = rw add-one (lines_more kind most make shelf (length session) number letter bytes text s r next done read d n ∙ l);
-      left = left_left session (letter ∷ bytes) r.rest g.left (left_left (letter ∷ bytes) bytes r.rest (left_drop 1 (letter ∷ bytes)) fine.0);
-      few = omega (arith, fine.0.0, g.few);
+      left = left_left session (letter ∷ bytes) r.rest g.left (left_left (letter ∷ bytes) bytes r.rest (left_drop 1 (letter ∷ bytes)) after);
+      few = omega (arith, after.0, g.few);
     }
-
--- where the operands of a command that was read stand, and that it takes a byte or more
-pub going_placed : {S : Type 0} (kind : Kind S) (make : Make) (session shelf whole text rest : List ℕ) (number : ℕ) (s : InForce S) → Going kind make session shelf whole text rest number s →
-    0 < length rest → (r : Read) →
-    Ok r ≡ read_command make (sizes_in s.receiver) (length session - length rest) (get_or rest 0 0) (take (length rest - 1) (drop 1 rest)) →
-    Placed session (length session - length rest) r.request × (length r.rest < length rest)
-going_placed kind make session shelf whole text [] number s g some r e = absurd (omega arith)
-going_placed kind make session shelf whole text (letter ∷ bytes) number s g some r e =
-    let fine : Left bytes r.rest × Placed session (length session - suc (length bytes)) r.request =
-    fine_command session make (sizes_in s.receiver) (length session - suc (length bytes)) letter bytes (after_letter session letter bytes g.left) r (rw (take_rest (letter ∷ bytes) 1) at e) in
-    (fine.1, omega (arith, fine.0.0))
 
 -- a command that ends the session has the last line
 pub going_last : {S : Type 0} (kind : Kind S) (make : Make) (session shelf whole text rest : List ℕ) (number : ℕ) (s : InForce S) → Going kind make session shelf whole text rest number s →
@@ -112,14 +106,15 @@ pub between_more : {S : Type 0} (kind : Kind S) (make : Make) (session shelf who
     (b : Between kind make session shelf whole text rest number state memory) → 0 < length rest →
     (r : Read) (next : List ℕ) (state' : State S) (memory' : Memory S) (answer : Result (List (List ℕ)) SessionFault) →
     Ok r ≡ read_command make (sizes_in b.force.receiver) (length session - length rest) (get_or rest 0 0) (take (length rest - 1) (drop 1 rest)) →
+    Left (take (length rest - 1) (drop 1 rest)) r.rest →
     Did kind (perform kind shelf (length session - length rest) r.request b.force) answer state' memory' →
     next ≡ text ++ answer_line number (get_or rest 0 0) answer →
     Between kind make session shelf whole next r.rest (number + 1) state' memory'
-between_more kind make session shelf whole text rest number state memory b some r next state' memory' answer e did n =
+between_more kind make session shelf whole text rest number state memory b some r next state' memory' answer e l did n =
     record {
       force = (perform kind shelf (length session - length rest) r.request b.force).after;
       stands = did.after;
-      going = going_more kind make session shelf whole text rest number b.force b.going some r next _ e refl (n ∙ ap (λ x. text ++ answer_line number (get_or rest 0 0) x) did.answer);
+      going = going_more kind make session shelf whole text rest number b.force b.going some r next _ e l refl (n ∙ ap (λ x. text ++ answer_line number (get_or rest 0 0) x) did.answer);
     }
 
 -- memory that stays lent, call after call

@@ -1,4 +1,4 @@
--- The header and the commands of a session, as they are read: cited by `read_header` and `read_command`. Assumes nothing.
+-- The header and the commands of a session, as they are read: cited by `Number`, `Make` and `Header`, which are made of bytes, and by `read_command`. Assumes nothing.
 use Rattle.std.specs.Prelude.{ℕ, ◌+◌, ◌*◌, ◌^◌, cond, List, [], ◌∷◌, length, take, drop, Some, None, Ok, Err, Option, Result, ◌==◌, nat_le}
 use Rattle.code.specs.declared.faults.MapFault.TheVariants.{Exponent}
 use Rattle.code.specs.Spans.{good_exponent}

@@ -1,4 +1,4 @@
--- What layer 3 reports of each refusal: cited by `SessionFault::report` and by the lines of a session. Assumes nothing.
+-- What layer 3 reports of each refusal: cited where a `SessionFault` becomes a `Report`, and by the lines of a session. Assumes nothing.
 use Rattle.std.specs.Prelude.{ℕ}
 use Rattle.code.specs.declared.faults.MapFault.{MapFault}
 use Rattle.code.specs.declared.faults.Report.{Report}

@@ -1,4 +1,4 @@
--- What a reading means, as plain data: cited by the readers of commands. Assumes nothing.
+-- What a reading means, as plain data: cited by `read_command`. Assumes nothing.
 use Rattle.std.specs.Prelude.{Ok, Err, Result}
 use Rattle.session.specs.declared.faults.SessionFault.{SessionFault}
 use Rattle.session.specs.declared.reading.Reading.{Reading}

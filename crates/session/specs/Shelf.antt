@@ -1,4 +1,4 @@
--- The shelf of orders: cited by `find_slot` and `ranks_from`. Assumes nothing.
+-- The shelf of orders: cited by `find_slot` and `Sources`. Assumes nothing.
 use Rattle.std.specs.Prelude.{ℕ, zero, suc, ◌+◌, ◌*◌, ◌^◌, cond, ◌&&◌, List, [], ◌∷◌, length, drop, Some, None, Option, nat_le}
 use Rattle.code.specs.Spans.{good_exponent}
 use Rattle.session.specs.declared.shelf.Record.{Record}

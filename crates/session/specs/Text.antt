@@ -1,4 +1,4 @@
--- The lines that a session prints: cited by `transcript` and by the functions that write a line. Assumes nothing.
+-- The lines that a session prints: cited by `transcript` and by `Line`. Assumes nothing.
 use Rattle.std.specs.Prelude.{ℕ, cond, ◌||◌, List, [], ◌∷◌, ◌++◌, map, decimal, ◌==◌}
 use Rattle.code.specs.declared.faults.Report.{Report}
 

@@ -7,7 +7,7 @@ use code::listed::Listed;
 use code::map::Map;
 use code::ranked::Ranked;
 
-// A map of either make.
+// A map of either make. An enum, and no `dyn Map`: the receiver copies its map.
 #[derive(Clone, Copy)]
 pub(crate) enum Chosen<'a> {
     Ranked(Ranked<'a>),

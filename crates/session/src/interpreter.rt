@@ -46,6 +46,7 @@ fn open<'a>(sources: Sources<'a>) -> Result<Opened<'a>, SessionFault>
 }
 
 // Does the commands one after the other, in this work memory, and appends their lines.
+#[tactic(auto, using(crate::proofs::Turns::operands_at, crate::proofs::Turns::shorter, crate::proofs::Lines::answered_small))]
 fn push_lines<'a, S: Soft + Copy>(
     text: &mut String,
     make: Make,
@@ -63,6 +64,7 @@ fn push_lines<'a, S: Soft + Copy>(
     let mut word = [0u8; 1024];
     let mut number = 0;
     let mut rest = commands;
+    // Kept as a `while let` with a count beside it: where the next command begins is known only once this one was read.
     while let [letter, operands @ ..] = rest {
         let at = sources.session.len() - rest.len();
         let letter = *letter;
@@ -113,6 +115,7 @@ fn push_session<'a>(
     };
     let pending = &mut [idle; 64];
     let bits = &mut [0u8; 1024];
+    // Each arm makes its own soft numbers: of an array of a type parameter it is not proved that its size fits.
     match header.number {
         Number::Whole => {
             let soft = &mut [Whole::fill(); 2048];

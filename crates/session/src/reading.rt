@@ -1,7 +1,10 @@
 // Reading the commands of a session.
-ghost use Rattle.std.specs.Prelude.{◌≡◌, ◌^◌, ◌<◌, ◌≤◌, [], ◌∷◌, ◌++◌, length, take, drop, if◌then◌else◌, Ok, Err, MatchResult};
+ghost use Rattle.std.specs.Prelude.{◌≡◌, ◌^◌, ◌<◌, ◌≤◌, [], ◌∷◌, ◌++◌, length, take, drop, if◌then◌else◌, Ok, Err, ℕ, ◌+◌, List, IfOk, MatchResult};
 ghost use Rattle.session.specs.declared.faults.SessionFault.TheVariants.{Cut};
-ghost use Rattle.session.specs.Commands.{read_command};
+ghost use Rattle.session.specs.Commands.{read_command, request_of};
+ghost use Rattle.session.specs.Faults.{report_of};
+ghost use Rattle.session.specs.States.{Left, Placed};
+ghost use Rattle.session.specs.Text.{shown_letter};
 ghost use Rattle.session.specs.Readings.{reading_of};
 
 use crate::commands::{Command, Make, Sizes};
@@ -31,7 +34,10 @@ pub(crate) fn read_command<'a>(
     letter: u8,
     bytes: &'a [u8],
 ) -> Result<Reading<'a>, SessionFault>
-    ensures { reading_of result ≡ read_command make sizes at letter bytes.now }
+    ensures read { reading_of result ≡ read_command make sizes at letter bytes.now }
+    ensures ascii { MatchResult result (λ _. letter < 128) (λ fault. shown_letter (report_of fault) letter < 128) }
+    ensures left { IfOk result (λ reading. Left bytes.now reading.rest.now) }
+    ensures placed { IfOk result (λ reading. (session : List ℕ) → bytes.now ≡ drop (at + 1) session → Placed session at (request_of reading.command)) }
 {
     match (make, letter, bytes) {
         (_, b'E', _) => {

@@ -1,5 +1,5 @@
 // Where orders are kept: in the session itself, and on a shelf of order records, back to back.
-ghost use Rattle.std.specs.Prelude.{◌≡◌, ◌+◌, ◌≤◌, length, drop};
+ghost use Rattle.std.specs.Prelude.{◌≡◌, ◌+◌, ◌≤◌, length, drop, IfSome};
 ghost use Rattle.code.specs.Spans.{part};
 ghost use Rattle.session.specs.Shelf.{record_from, slot_record, held_by};
 
@@ -44,7 +44,8 @@ pub(crate) struct Record {
 
 // The order record that begins at `at`, if it is whole.
 fn record_at(shelf: &[u8], at: usize) -> Option<Record>
-    ensures { result ≡ record_from at (drop at shelf.now) }
+    ensures found { result ≡ record_from at (drop at shelf.now) }
+    ensures within { IfSome result (λ found. found.place + found.count ≤ length shelf.now) }
 {
     let [n, ranks @ ..] = shelf.get(at..)? else {
         return None;
@@ -61,8 +62,10 @@ fn record_at(shelf: &[u8], at: usize) -> Option<Record>
 }
 
 // The record of a slot, counted from 0.
+#[tactic(auto, using(crate::proofs::Records::slot_more, crate::proofs::Records::slot_none, crate::proofs::Records::slot_here))]
 pub(crate) fn find_slot(shelf: &[u8], slot: u8) -> Option<Record>
-    ensures { result ≡ slot_record slot 0 shelf.now }
+    ensures found { result ≡ slot_record slot 0 shelf.now }
+    ensures within { IfSome result (λ found. found.place + found.count ≤ length shelf.now) }
 {
     let mut at = 0;
     for _passed in 0..slot {

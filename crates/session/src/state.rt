@@ -134,7 +134,7 @@ impl<'a, S: Soft + Copy> State<'a, S> {
         Ok(Answer::Nothing)
     }
 
-    // `V`
+    // `V`. Kept beside `W`: one function for both would need a flag that says which of the receiver's calls is meant.
     fn short_word(
         &mut self,
         at: usize,
@@ -165,6 +165,7 @@ impl<'a, S: Soft + Copy> State<'a, S> {
     }
 
     // `T`
+    #[tactic(auto, using(crate::proofs::Calling::few_informed))]
     fn take<'b>(
         &mut self,
         at: usize,

@@ -1,8 +1,7 @@
-use Rattle.std.proofs.Common.{◌<◌, length, sym, subst, refl, le_refl, arith, ltb-false, ltb-true}
+use Rattle.std.proofs.Common.{◌<◌, length, refl, le_refl, arith, ltb-false, ltb-true}
 use Rattle.std.proofs.lemmas.Result.{on_ok_weaker}
 use Rattle.session.specs.Sessions.{nothing}
-use Rattle.session.proofs.Lines.{ReadSmall, answered_small, small_command}
-use Rattle.session.proofs.Turns.{going_placed, going_last, going_done, between_more, lent_on}
+use Rattle.session.proofs.Turns.{going_last, going_done, between_more, lent_on}
 use Rattle.session.proofs.interpreter.push_lines.Goals as goal
 
 pub loop-rest-init : goal.loop-rest-init
@@ -15,27 +14,13 @@ loop-rest-init g c = record {
   lent = record { soft = refl; pending = refl; bits = refl; soft_long = refl; pending_long = refl; bits_long = refl };
 }
 
-pub run-answer-requires : goal.run-answer-requires
-run-answer-requires g c =
-    let some : 0 < length c.loop-rest.rest.now = omega (arith, ltb-false) in
-    let b = c.loop-rest.invariant.between in
-    let sizes = c.sizes.ensures b.force _ b.stands in
-    (going_placed g.S.Soft.kind _ _ _ _ _ _ _ _ b.going some _ (simp sizes at c.in-Ok.ensures)).0
-
-pub loop-rest-smaller : goal.loop-rest-smaller
-loop-rest-smaller g c =
-    let some : 0 < length c.loop-rest.rest.now = omega (arith, ltb-false) in
-    let b = c.loop-rest.invariant.between in
-    let sizes = c.sizes.ensures b.force _ b.stands in
-    (going_placed g.S.Soft.kind _ _ _ _ _ _ _ _ b.going some _ (simp sizes at c.in-Ok.ensures)).1
-
 pub loop-rest-preserved : goal.loop-rest-preserved
 loop-rest-preserved g c =
     let some : 0 < length c.loop-rest.rest.now = omega (arith, ltb-false) in
     let b = c.loop-rest.invariant.between in
     let sizes = c.sizes.ensures b.force _ b.stands in
     record {
-      between = between_more g.S.Soft.kind _ _ _ _ _ _ _ _ _ b some _ _ _ _ _ (simp sizes at c.in-Ok.ensures) (c.run-answer.ensures.works b.force b.stands) c.in_ok-write-in-Ok.ensures.bytes;
+      between = between_more g.S.Soft.kind _ _ _ _ _ _ _ _ _ b some _ _ _ _ _ (simp sizes at c.in-Ok.ensures.read) c.in-Ok.ensures.left (c.run-answer.ensures.works b.force b.stands) c.in_ok-write-in-Ok.ensures.bytes;
       lent = lent_on _ _ _ c.loop-rest.invariant.lent c.run-answer.ensures.lent;
     }
 
@@ -44,13 +29,7 @@ returns-in-Err-clause-lines g c =
     let some : 0 < length c.loop-rest.rest.now = omega (arith, ltb-false) in
     let b = c.loop-rest.invariant.between in
     let sizes = c.sizes.ensures b.force _ b.stands in
-    on_ok_weaker c.write-in-Err.result (going_last g.S.Soft.kind _ _ _ _ _ _ _ _ b.going some _ _ (simp sizes at c.in-Err.ensures)) c.write-in-Err.ensures.bytes
+    on_ok_weaker c.write-in-Err.result (going_last g.S.Soft.kind _ _ _ _ _ _ _ _ b.going some _ _ (simp sizes at c.in-Err.ensures.read)) c.write-in-Err.ensures.bytes
 
 pub returns-clause-lines : goal.returns-clause-lines
 returns-clause-lines g c = going_done g.S.Soft.kind _ _ _ _ _ _ _ _ c.loop-rest.invariant.between.going (omega (arith, ltb-true))
-
-pub invariant_of-line : goal.invariant_of-line
-invariant_of-line g c = record { ascii = answered_small c.run-answer.result _ (subst (ReadSmall _) (sym c.in-Ok.ensures) (small_command c.args.make c.sizes.result _ _ _)) }
-
-pub invariant_of-line-in-Err : goal.invariant_of-line-in-Err
-invariant_of-line-in-Err g c = record { ascii = subst (ReadSmall _) (sym c.in-Err.ensures) (small_command c.args.make c.sizes.result _ _ _) }
