@@ -133,7 +133,7 @@ module _ {S : Type 0} (kind : Kind S) where
         (λ f.
         let h = leb-false (suc n) e f in
         let l = left_values_long kind n values hv in
-        let r = right_values_long kind n values hv _ (length_cancel kind laws n (take (2 ^ n) marks) (left_values kind n values) (left_long n marks hm) l) in
+        let r = right_values_long kind n values hv _ (length_cancel kind n (take (2 ^ n) marks) (left_values kind n values) (left_long n marks hm) l) in
         cond_both {A = List S} (ltb s (2 ^ n)) _ _ (λ (row : List S). length row ≡ 2 ^ e)
         (λ t. length_span n (take (2 ^ n) marks) (left_values kind n values) e s (omega arith) (left_long n marks hm) l)
         (λ t. length_span n (drop (2 ^ n) marks) _ e (s - 2 ^ n) (omega arith) (right_long n marks hm) r))

@@ -26,14 +26,7 @@ laid_frozen (m ∷ marks) message (suc i) frozen =
       | false ↦ laid_frozen marks message i frozen
     ]
 
-module _ {S : Type 0} (kind : Kind S) (laws : Laws kind) where
-  pub right_message : RightSigns kind
-  right_message e marks message values hm hv count right =
-      let bits = laid marks message in
-      let bits-long : length bits ≡ 2 ^ e = length_laid marks message ∙ hm in
-      let word : cancel kind e marks values ≡ encoded e marks message = right_signs kind laws e marks bits values hm bits-long hv (λ i h f. laid_frozen marks message i f) right ∙ right in
-      (word, ap (λ w. informed marks (transform e w)) word ∙ ap (informed marks) (undoes_itself e bits bits-long) ∙ informed_laid marks message count)
-
+module _ {S : Type 0} (kind : Kind S) where
   length_decided : (marks : List ℕ) (values : List S) → length marks ≡ 1 → length values ≡ 1 → length (decided kind marks values) ≡ 1
   length_decided [] values hm hv = hm
   length_decided (m ∷ marks) [] hm hv = hv
@@ -49,6 +42,14 @@ module _ {S : Type 0} (kind : Kind S) (laws : Laws kind) where
       let lr : length right ≡ 2 ^ e = length_cancel e (drop (2 ^ e) marks) (right_values kind e values left) (right_long e marks hm) (right_values_long kind e values hv left ll) in
       let lx : length (xor_row left right) ≡ 2 ^ e = length-xor_row left right (ll ∙ sym lr) ∙ ll in
       length-append (xor_row left right) right ∙ omega (arith, two-pow-succ e)
+
+module _ {S : Type 0} (kind : Kind S) (laws : Laws kind) where
+  pub right_message : RightSigns kind
+  right_message e marks message values hm hv count right =
+      let bits = laid marks message in
+      let bits-long : length bits ≡ 2 ^ e = length_laid marks message ∙ hm in
+      let word : cancel kind e marks values ≡ encoded e marks message = right_signs kind laws e marks bits values hm bits-long hv (λ i h f. laid_frozen marks message i f) right ∙ right in
+      (word, ap (λ w. informed marks (transform e w)) word ∙ ap (informed marks) (undoes_itself e bits bits-long) ∙ informed_laid marks message count)
 
   frozen_decided : (marks : List ℕ) (values : List S) → Allows 0 marks (decided kind marks values)
   unfolding transform
@@ -72,9 +73,9 @@ module _ {S : Type 0} (kind : Kind S) (laws : Laws kind) where
   allowed (suc e) marks values hm hv i frozen =
       let left = cancel kind e (take (2 ^ e) marks) (left_values kind e values) in
       let right = cancel kind e (drop (2 ^ e) marks) (right_values kind e values left) in
-      let ll : length left ≡ 2 ^ e = length_cancel e (take (2 ^ e) marks) (left_values kind e values) (left_long e marks hm) (left_values_long kind e values hv) in
+      let ll : length left ≡ 2 ^ e = length_cancel kind e (take (2 ^ e) marks) (left_values kind e values) (left_long e marks hm) (left_values_long kind e values hv) in
       let lv = right_values_long kind e values hv left ll in
-      let lr : length right ≡ 2 ^ e = length_cancel e (drop (2 ^ e) marks) (right_values kind e values left) (right_long e marks hm) lv in
+      let lr : length right ≡ 2 ^ e = length_cancel kind e (drop (2 ^ e) marks) (right_values kind e values left) (right_long e marks hm) lv in
       let lt : length (transform e left) ≡ 2 ^ e = keeps_length e left ll in
       ap (λ row. get_or row i 0) (transform_halves e left right ll lr)
       ∙ ⊎_elim

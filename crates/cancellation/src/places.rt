@@ -18,6 +18,7 @@ fn turns_before(size: u32, i: usize, other: u32, j: usize) -> bool
 }
 
 // The place of a span to turn: of least size, and among equals the one whose number, read in reverse, is smallest. A row of no values has none.
+// Kept with the place and its size in hand: the library's `min_by_key` would make a key of every place.
 pub(crate) fn place_to_turn<S: Soft + Copy>(values: &[S]) -> Option<usize>
     ensures turns { (e : ℕ) → length values.now ≡ 2 ^ e → IsSomeAnd result (Turns e (size_at S.Soft.kind values.now) (2 ^ e)) }
     ensures within { IfSome result (λ place. place < length values.now) }

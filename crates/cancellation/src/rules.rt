@@ -24,7 +24,7 @@ pub(crate) fn write_signs<S: Soft + Copy>(values: &[S], bits: &mut [u8]) -> u8
 }
 
 // Single parity check: the signs, with one of them turned where their XOR is 1.
-// Kept as a byte: the XOR is of the bytes written.
+// Kept as a byte, and with the lengths as a clause: the XOR is of the bytes written, and a struct of the two rows would be made for one call.
 pub(crate) fn single_parity<S: Soft + Copy>(values: &[S], bits: &mut [u8])
     requires { length bits.old ≡ length values.now }
     ensures { (e : ℕ) → length values.now ≡ 2 ^ e → Rule S.Soft.kind Spc e values.now bits.new }
@@ -62,6 +62,7 @@ fn fold<S: Soft + Copy>(values: &mut [S])
 }
 
 // Repetition: all bits are the sign of the value left, once the row is halved.
+// Kept with the lengths as a clause: a struct of the two rows would be made for one call.
 pub(crate) fn repetition<S: Soft + Copy>(values: &mut [S], bits: &mut [u8])
     requires { length bits.old ≡ length values.old }
     ensures row { (e : ℕ) → length values.old ≡ 2 ^ e → values.new ≡ folded S.Soft.kind e values.old }

@@ -27,7 +27,7 @@ power_most n t h =
     omega (arith, there.2)
 
 -- every power up to 2 ^ n passes
-power_at : (n e : ℕ) → e ≤ n → power_up_to n (2 ^ e) ≡ true
+pub power_at : (n e : ℕ) → e ≤ n → power_up_to n (2 ^ e) ≡ true
 unfolding power_up_to
 power_at zero e h = let z : 2 ^ e ≡ 1 = let none : e ≡ 0 = omega arith in rw none in eq-eqb (2 ^ e) 1 z
 power_at (suc n) e h =

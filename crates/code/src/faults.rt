@@ -32,6 +32,7 @@ pub enum MapFault {
     Buffer,
 }
 
+// Kept beside those of the other layers: each layer has its own refusals, numbers and places.
 impl From<MapFault> for Report {
     ghost from_gives = { λ fault r. r ≡ report_of fault };
 

@@ -61,6 +61,7 @@ impl<'a> Map for Ranked<'a> {
     }
 
     fn kind(&self, start: usize, length: usize) -> Result<Option<SpanKind>, MapFault> {
+        // Kept beside the listed map's: that one looks at all marks, this one at four.
         if !is_span(self.order.n, start, length) {
             return Err(MapFault::Outside);
         }

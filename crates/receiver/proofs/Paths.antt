@@ -1,10 +1,10 @@
 -- The spans along a path from the whole word: their exponents, marks, starts and rows. Assumes nothing.
-use Rattle.std.proofs.Common.{◌≡◌, ℕ, ◌+◌, ◌-◌, ◌*◌, ◌^◌, ◌≤◌, List, [], ◌∷◌, length, take, drop, replicate, sym, ap, ◌∙◌, ap₂, mul_assoc, add-mul, one-mul, zero-mul, mul-add, arith}
-use Rattle.std.proofs.lemmas.List.{length-append, length-replicate, take-take, take_all, drop-drop, drop-take}
+use Rattle.std.proofs.Common.{◌≡◌, ℕ, ◌+◌, ◌-◌, ◌*◌, ◌^◌, ◌≤◌, List, [], ◌∷◌, length, take, drop, sym, ap, ◌∙◌, ap₂, mul_assoc, add-mul, one-mul, zero-mul, mul-add, arith}
+use Rattle.std.proofs.lemmas.List.{length-append, take-take, take_all, drop-drop, drop-take}
 use Rattle.soft.specs.Kind.{Kind}
 use Rattle.code.specs.Spans.{part}
 use Rattle.receiver.specs.Work.{Span, Full, Root, Side, left, right}
-use Rattle.receiver.specs.Work.{half, word_of, left_of, right_of, span_at, rows, before, after}
+use Rattle.receiver.specs.Work.{half, word_of, left_of, right_of, span_at, rows, before}
 use Rattle.receiver.proofs.Places.{split_pow, full_left, full_right, length_word}
 
 twice_times : (q h : ℕ) → q * (h + h) ≡ 2 * q * h
@@ -86,17 +86,3 @@ module _ {S : Type 0} (kind : Kind S) (n : ℕ) (root : Span S) (is : Root n roo
       let l = path_full (left ∷ path) deep in
       length-append (before kind root path) (word_of kind (left_of kind span))
       ∙ ap₂ ◌+◌ (before_length path (omega arith)) (length_word kind (left_of kind span) l)
-
-  pub after_length : (path : List Side) → length path ≤ n →
-      length (after kind root path) + ((span_at kind root path).start + 2 ^ (span_at kind root path).e) ≡ 2 ^ n
-  after_length [] deep = let k : 2 ^ root.e ≡ 2 ^ n = ap (λ j. 2 ^ j) is.e in omega (arith, is.start)
-  after_length (left ∷ path) deep =
-      let span = span_at kind root path in
-      let h = split_pow span.e (path_some left path deep) in
-      let up = after_length path (omega arith) in
-      omega (arith, length-append (replicate (half span) 2) (after kind root path), length-replicate {A = ℕ} (half span) 2)
-  after_length (right ∷ path) deep =
-      let span = span_at kind root path in
-      let h = split_pow span.e (path_some right path deep) in
-      let up = after_length path (omega arith) in
-      omega arith

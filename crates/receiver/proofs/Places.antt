@@ -1,19 +1,14 @@
 -- Laws of the places of the work: lengths, starts, and what one step does to rows and bits. Assumes nothing.
-use Rattle.std.proofs.Common.{◌≡◌, ℕ, zero, suc, ◌+◌, ◌-◌, ◌^◌, List, [], ◌∷◌, ◌++◌, length, take, drop, replicate, sym, refl, ap, ◌∙◌, append_assoc, arith}
+use Rattle.std.proofs.Common.{◌≡◌, ℕ, suc, ◌+◌, ◌-◌, ◌^◌, List, [], ◌∷◌, ◌++◌, length, take, drop, replicate, sym, ap, ◌∙◌, append_assoc, arith}
 use native.Mathlib.Nat.{two-pow-succ}
-use Rattle.std.proofs.lemmas.List.{length-append, length-take, length-drop, append-nil}
+use Rattle.std.proofs.lemmas.List.{length-take, length-drop, append-nil}
 use Rattle.soft.specs.Kind.{Kind}
-use Rattle.code.specs.Transform.{xor_row, join_halves}
-use Rattle.cancellation.specs.Rows.{left_values, right_values}
+use Rattle.code.specs.Transform.{join_halves}
 use Rattle.cancellation.specs.Cancel.{cancel}
 use Rattle.cancellation.proofs.Combined.{length-check_row, length-join_row}
+use Rattle.cancellation.proofs.Messages.{length_cancel}
 use Rattle.receiver.specs.Work.{Span, Full, Side, left, right}
 use Rattle.receiver.specs.Work.{half, word_of, left_of, right_of, span_at, before, after, bits_at, done}
-
-length_xor : (xs ys : List ℕ) → length xs ≡ length ys → length (xor_row xs ys) ≡ length xs
-length_xor [] ys e = refl
-length_xor (x ∷ xs) [] e = sym e
-length_xor (x ∷ xs) (y ∷ ys) e = ap suc (length_xor xs ys (let h : length xs ≡ length ys = omega arith in h))
 
 pub split_pow : (e : ℕ) → (e ≡ 0 → ⊥) → 2 ^ e ≡ 2 ^ (e - 1) + 2 ^ (e - 1)
 split_pow e some = let s : suc (e - 1) ≡ e = omega arith in ap (λ k. 2 ^ k) (sym s) ∙ two-pow-succ (e - 1)
@@ -26,30 +21,8 @@ module _ {X : Type 0} (e : ℕ) (row : List X) (some : e ≡ 0 → ⊥) (long : 
   drop_half = simp length-drop (omega (arith, split_pow e some))
 
 module _ {S : Type 0} (kind : Kind S) where
-  pub length_cancel : (e : ℕ) (marks : List ℕ) (values : List S) → length marks ≡ 2 ^ e → length values ≡ 2 ^ e → length (cancel kind e marks values) ≡ 2 ^ e
-  unfolding cancel
-  length_cancel zero [] values m v = m
-  length_cancel zero (x ∷ marks) [] m v = v
-  length_cancel zero (x ∷ marks) (y ∷ values) m v = refl
-  length_cancel (suc e) marks values m v =
-      let some : suc e ≡ 0 → ⊥ = omega arith in
-      let p : suc e - 1 ≡ e = omega arith in
-      let h = two-pow-succ e in
-      let tm : length (take (2 ^ e) marks) ≡ 2 ^ e = simp length-take (omega arith) in
-      let dm : length (drop (2 ^ e) marks) ≡ 2 ^ e = simp length-drop (omega arith) in
-      let tv : length (take (2 ^ e) values) ≡ 2 ^ e = simp length-take (omega arith) in
-      let dv : length (drop (2 ^ e) values) ≡ 2 ^ e = simp length-drop (omega arith) in
-      let lv : length (left_values kind e values) ≡ 2 ^ e = length-check_row kind (take (2 ^ e) values) (drop (2 ^ e) values) (tv ∙ sym dv) ∙ tv in
-      let l = cancel kind e (take (2 ^ e) marks) (left_values kind e values) in
-      let ll : length l ≡ 2 ^ e = length_cancel e (take (2 ^ e) marks) (left_values kind e values) tm lv in
-      let rv : length (right_values kind e values l) ≡ 2 ^ e =
-      length-join_row kind (take (2 ^ e) values) (drop (2 ^ e) values) l (tv ∙ sym dv) (tv ∙ sym ll) ∙ tv in
-      let r = cancel kind e (drop (2 ^ e) marks) (right_values kind e values l) in
-      let lr : length r ≡ 2 ^ e = length_cancel e (drop (2 ^ e) marks) (right_values kind e values l) dm rv in
-      length-append (xor_row l r) r ∙ omega (arith, length_xor l r (ll ∙ sym lr), ll, lr)
-
   pub length_word : (span : Span S) → Full span → length (word_of kind span) ≡ 2 ^ span.e
-  length_word span full = length_cancel span.e span.marks span.values full.marks full.values
+  length_word span full = length_cancel kind span.e span.marks span.values full.marks full.values
 
   pub full_left : (span : Span S) → Full span → (span.e ≡ 0 → ⊥) → Full (left_of kind span)
   full_left span full some =

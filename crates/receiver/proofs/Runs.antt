@@ -15,6 +15,7 @@ use Rattle.receiver.specs.Work.{Caps, Span, Root, Took, Place, at, first, finish
 use Rattle.receiver.specs.Model.{Hand, Model, ten_ten, value_of, values_of, root_of, is_finished, caps_fault, capped, full_length, short_length, word_fault_by, word_fault, worded, right_buffers, message_in, ended}
 use Rattle.receiver.specs.Calls.{Call, remap, set_caps, word, short_word, advance, take, drop_word, Answer, refused, done, took, Outcome, outcome, called, answers_to}
 use Rattle.receiver.specs.Law.{Held, Seen, seen_after, newly, longer, caps_at, enough, Adding, Costs, unfinished, unroomy, unfit, plain, Lawful, LawFrom, Mapped, AllMapped, LawOverRuns}
+use Rattle.receiver.proofs.Standing.{never}
 use Rattle.receiver.proofs.Counts.{Stands, stands_start, stands_took, unfinished_below}
 use Rattle.receiver.proofs.CheapSpans.{begun_deep, settled_cheap}
 use Rattle.receiver.proofs.Standing.{standing_walk, made_most, made_all, was_open, open_before}
@@ -71,9 +72,6 @@ record Goes {S : Type 0} (kind : Kind S) (call : Call) (s : State S) (out : Outc
 -- the caps of the steps after an advance
 longer_length : (caps : List Caps) (k : ℕ) (c : Caps) → length (caps ++ replicate k c) ≡ length caps + k
 longer_length caps k c = length-append caps (replicate k c) ∙ ap (λ j. length caps + j) (length-replicate k c)
-
-never : {A : Type 0} → true ≡ false → A
-never e = let z : ◌≡◌ {A = ℕ} 0 1 = cc in absurd (omega arith)
 
 never_some : {A X : Type 0} {x : X} → Some x ≡ None → A
 never_some e = let z : ◌≡◌ {A = ℕ} 0 1 = cc in absurd (omega arith)

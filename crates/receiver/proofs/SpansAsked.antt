@@ -1,25 +1,17 @@
 -- What the map answers of the spans along a path. Assumes nothing.
-use Rattle.std.proofs.Common.{◌≡◌, ℕ, zero, suc, ◌+◌, ◌%◌, ◌^◌, ◌≤◌, Bool, true, false, cond, ◌||◌, eqb, List, [], ◌∷◌, length, get_or, drop, Some, None, Ok, Err, Option, sym, refl, ap, ◌∙◌, ⊎_elim, arith, subst}
+use Rattle.std.proofs.Common.{◌≡◌, ℕ, zero, suc, ◌+◌, ◌%◌, ◌^◌, ◌≤◌, Bool, true, false, cond, ◌||◌, eqb, List, [], ◌∷◌, length, get_or, drop, Some, None, Ok, Err, Option, sym, refl, ap, ◌∙◌, arith, subst}
 use native.Mathlib.Nat.{mul-mod_left}
-use Rattle.std.proofs.lemmas.Bool.{cases_eq, eq-eqb, ne_eqb, le-leb, or_left, or_right, and_from}
+use Rattle.std.proofs.lemmas.Bool.{eq-eqb, ne_eqb, le-leb, and_from}
 use Rattle.std.proofs.lemmas.List.{get_or-take, get_or-drop}
 use Rattle.code.specs.declared.kinds.SpanKind.{SpanKind}
 use Rattle.code.specs.declared.faults.MapFault.TheVariants.{Outside}
-use Rattle.code.specs.Spans.{same, pattern, kinds, first_fit, kind_of, part, power_up_to, is_span, kind_answer, Means}
+use Rattle.code.specs.Spans.{same, pattern, kinds, first_fit, kind_of, part, is_span, kind_answer, Means}
 use Rattle.code.proofs.KindPatterns.{eq_from_same}
 use Rattle.soft.specs.Kind.{Kind}
+use Rattle.code.proofs.SpanTests.{power_at}
 use Rattle.receiver.specs.Work.{Caps, allowed_kind, allowed, settled, Span, Root, Side, span_at}
 use Rattle.receiver.specs.Steps.{settled_by}
 use Rattle.receiver.proofs.Paths.{path_e, path_full, path_marks, path_start}
-
-power_up : (n e : ℕ) → e ≤ n → power_up_to n (2 ^ e) ≡ true
-unfolding power_up_to
-power_up zero e le = let z : e ≡ 0 = omega arith in eq-eqb (2 ^ e) 1 (ap (λ k. 2 ^ k) z)
-power_up (suc n) e le =
-    ⊎_elim
-    (λ (h : e ≡ suc n). or_left (eqb (2 ^ e) (2 ^ suc n)) (power_up_to n (2 ^ e)) (eq-eqb (2 ^ e) (2 ^ suc n) (ap (λ k. 2 ^ k) h)))
-    (λ (h : e ≡ suc n → ⊥). or_right (eqb (2 ^ e) (2 ^ suc n)) (power_up_to n (2 ^ e)) (power_up n e (omega arith)))
-    (cases_eq e (suc n))
 
 -- a span that has a kind has the marks of that kind
 pub kind_marks : (marks : List ℕ) (k : SpanKind) → kind_of marks ≡ Some k → marks ≡ pattern k (length marks)
@@ -57,7 +49,7 @@ module _ {S : Type 0} (kind : Kind S) (n : ℕ) (marks : List ℕ) (root : Span 
       let span = span_at kind root path in
       let there = path_start kind n root is path deep in
       let whole : span.start % 2 ^ span.e ≡ 0 = ap (λ s. s % 2 ^ span.e) there.1.1 ∙ mul-mod_left there.1.0 (2 ^ span.e) in
-      and_from _ _ (power_up n span.e (omega (arith, path_e kind n root is path)))
+      and_from _ _ (power_at n span.e (omega (arith, path_e kind n root is path)))
       (and_from _ _ (eq-eqb (span.start % 2 ^ span.e) 0 whole) (le-leb (span.start + 2 ^ span.e) (2 ^ n) there.0))
 
   -- the map answers with the kind of its marks

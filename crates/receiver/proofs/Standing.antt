@@ -9,7 +9,7 @@ use Rattle.receiver.specs.Law.{caps_at, StepsRuled}
 use Rattle.receiver.proofs.Counts.{Stands, at_first, at_second, at_final, stands_step, stands_agree, took_some, took_most, took_unique}
 use Rattle.receiver.proofs.Walks.{walked_end}
 
-never : {A : Type 0} → true ≡ false → A
+pub never : {A : Type 0} → true ≡ false → A
 never e = let z : ◌≡◌ {A = ℕ} 0 1 = cc in absurd (omega arith)
 
 module _ {S : Type 0} (kind : Kind S) (root : Span S) (c : Caps) where
