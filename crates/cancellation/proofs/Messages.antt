@@ -4,7 +4,8 @@ use native.Mathlib.Nat.{two-pow-succ}
 use Rattle.std.proofs.lemmas.List.{take_at, drop_at, get_or-take, get_or-drop, get_or_append_left, get_or-append_right, length-append}
 use Rattle.std.proofs.lemmas.Bool.{cases_lt}
 use Rattle.soft.specs.Kind.{Kind, Laws}
-use Rattle.code.specs.Encode.{laid, informed, informed_count, encoded}
+use Rattle.code.proofs.Laying.{length_laid, informed_laid}
+use Rattle.code.specs.Encode.{laid, informed, encoded}
 use Rattle.code.specs.Transform.{xor_row, join_halves, transform}
 use Rattle.code.proofs.Transforms.{keeps_length, length-xor_row, undoes_itself, xor_row-twice, transform-xor_row}
 use Rattle.cancellation.specs.Rows.{bit, left_values, right_values}
@@ -13,14 +14,6 @@ use Rattle.cancellation.specs.Cost.{Allows}
 use Rattle.cancellation.specs.Promises.{RightSigns, Allowed}
 use Rattle.cancellation.proofs.Combined.{left_long, right_long, left_values_long, right_values_long}
 use Rattle.cancellation.proofs.Cancels.{right_signs}
-
-length_laid : (marks message : List ℕ) → length (laid marks message) ≡ length marks
-length_laid [] message = refl
-length_laid (m ∷ marks) message =
-    elim (eqb m 1) as (λ t. length (cond t (get_or message 0 0 ∷ laid marks (drop 1 message)) (0 ∷ laid marks message)) ≡ suc (length marks)) [
-      | true ↦ ap suc (length_laid marks (drop 1 message))
-      | false ↦ ap suc (length_laid marks message)
-    ]
 
 -- a message laid on the marks is 0 where they are frozen
 laid_frozen : (marks message : List ℕ) (i : ℕ) → eqb (get_or marks i 0) 1 ≡ false → get_or (laid marks message) i 0 ≡ 0
@@ -33,28 +26,13 @@ laid_frozen (m ∷ marks) message (suc i) frozen =
       | false ↦ laid_frozen marks message i frozen
     ]
 
-first_dropped : (message : List ℕ) (n : ℕ) → length message ≡ suc n → (length (drop 1 message) ≡ n) × (get_or message 0 0 ∷ drop 1 message ≡ message)
-first_dropped [] n long = let h : ⊥ = omega arith in absurd h
-first_dropped (b ∷ message) n long = (omega arith, refl)
-
--- and is found there again
-laid_informed : (marks message : List ℕ) → length message ≡ informed_count marks → informed marks (laid marks message) ≡ message
-laid_informed [] [] long = refl
-laid_informed [] (b ∷ message) long = let h : ⊥ = omega arith in absurd h
-laid_informed (m ∷ marks) message long =
-    (elim (eqb m 1) as (λ t. length message ≡ cond t (suc (informed_count marks)) (informed_count marks) →
-    (let row = cond t (get_or message 0 0 ∷ laid marks (drop 1 message)) (0 ∷ laid marks message) in cond t (get_or row 0 0 ∷ informed marks (drop 1 row)) (informed marks (drop 1 row))) ≡ message) [
-      | true ↦ λ long. let first = first_dropped message (informed_count marks) long in ap (λ rest. get_or message 0 0 ∷ rest) (laid_informed marks (drop 1 message) first.0) ∙ first.1
-      | false ↦ λ long. laid_informed marks message long
-    ]) long
-
 module _ {S : Type 0} (kind : Kind S) (laws : Laws kind) where
   pub right_message : RightSigns kind
   right_message e marks message values hm hv count right =
       let bits = laid marks message in
       let bits-long : length bits ≡ 2 ^ e = length_laid marks message ∙ hm in
       let word : cancel kind e marks values ≡ encoded e marks message = right_signs kind laws e marks bits values hm bits-long hv (λ i h f. laid_frozen marks message i f) right ∙ right in
-      (word, ap (λ w. informed marks (transform e w)) word ∙ ap (informed marks) (undoes_itself e bits bits-long) ∙ laid_informed marks message count)
+      (word, ap (λ w. informed marks (transform e w)) word ∙ ap (informed marks) (undoes_itself e bits bits-long) ∙ informed_laid marks message count)
 
   length_decided : (marks : List ℕ) (values : List S) → length marks ≡ 1 → length values ≡ 1 → length (decided kind marks values) ≡ 1
   length_decided [] values hm hv = hm

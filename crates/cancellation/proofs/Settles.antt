@@ -1,5 +1,5 @@
 -- What each rule's word is, and a span settled by it. Assumes nothing.
-use Rattle.std.proofs.Common.{◌≡◌, ℕ, ◌+◌, ◌-◌, ◌^◌, cond, List, length, Ok, Err, Result, sym, refl, ap, ◌∙◌, subst, arith, pow_pos}
+use Rattle.std.proofs.Common.{◌≡◌, ℕ, ◌+◌, ◌-◌, ◌^◌, true, cond, List, length, Ok, Err, Result, sym, refl, ap, ◌∙◌, subst, arith, pow_pos}
 use Rattle.std.proofs.lemmas.Bool.{eq-eqb, ne_eqb}
 use Rattle.cancellation.specs.declared.faults.RowFault.{RowFault}
 use Rattle.cancellation.specs.declared.faults.RowFault.TheVariants.{Length}
@@ -18,7 +18,8 @@ use Rattle.cancellation.proofs.Messages.{right_message, allowed}
 use Rattle.cancellation.proofs.Balance.{cheapest_repeated}
 use Rattle.cancellation.proofs.Cheap.{cheapest_signs, cheapest_even}
 use Rattle.cancellation.proofs.Sought.{turns_some}
-use Rattle.cancellation.proofs.Powers.{pow_one}
+use Rattle.cancellation.proofs.Powers.{pow_one, power_of}
+use Rattle.std.specs.Int.{is_power_of_two}
 
 -- some place of a span is to be turned
 pub turns_in : (e : ℕ) (z : ℕ → ℕ) → (p : ℕ) × Turns e z (2 ^ e) p
@@ -89,10 +90,17 @@ module _ {S : Type 0} (kind : Kind S) where
     abbrev pub Ensured : SpanKind → List S → List S → List ℕ → List ℕ → Result (Unit {0}) RowFault → Type 0
     Ensured k values after bits word answer = record { settled : Settled kind k values after bits word answer; right : RightSigns kind; allowed : Allowed kind }
 
-    pub promised : (k by : SpanKind) (e : ℕ) (values after : List S) (bits word : List ℕ) → k ≡ by → length values ≡ 2 ^ e → length values ≡ length bits →
+    promised : (k by : SpanKind) (e : ℕ) (values after : List S) (bits word : List ℕ) → k ≡ by → length values ≡ 2 ^ e → length values ≡ length bits →
         Rule kind by e values word → after ≡ row_after kind by e values → Ensured k values after bits word (Ok tt)
     promised k by e values after bits word is long same rule row =
         record { settled = settled k by e values after bits word is long same rule row; right = right_message kind laws; allowed = allowed kind laws }
+
+    -- the same, of rows whose length passes the library's test
+    pub promised_for : (k by : SpanKind) (values after : List S) (bits word : List ℕ) → k ≡ by → length values ≡ length bits → is_power_of_two (length values) ≡ true →
+        ((e : ℕ) → length values ≡ 2 ^ e → Rule kind by e values word) → ((e : ℕ) → length values ≡ 2 ^ e → after ≡ row_after kind by e values) → Ensured k values after bits word (Ok tt)
+    promised_for k by values after bits word is same tested rule row =
+        let p = power_of (length values) tested in
+        promised k by p.0 values after bits word is p.1 same (rule p.0 p.1) (row p.0 p.1)
 
     pub refusing : (k : SpanKind) (values : List S) (bits : List ℕ) → ((e : ℕ) → length values ≡ 2 ^ e → length bits ≡ 2 ^ e → ⊥) → Ensured k values values bits bits (Err Length)
     refusing k values bits none = record { settled = refusal k values bits none; right = right_message kind laws; allowed = allowed kind laws }

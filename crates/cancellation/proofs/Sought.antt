@@ -7,17 +7,6 @@ use Rattle.std.proofs.lemmas.List.{take_rest, get_or-drop, get_or_default, lengt
 use Rattle.soft.specs.Kind.{Kind}
 use Rattle.cancellation.specs.Rules.{reversed, Turns, size_at}
 
-reversed_small : (e i : ℕ) → reversed e i < 2 ^ e
-reversed_small zero i = omega arith
-reversed_small (suc e) i =
-    let p = two-pow-succ e in
-    let s = reversed_small e (i / 2) in
-    ⊎_elim (λ z. let m : (i % 2) * 2 ^ e ≡ 0 * 2 ^ e = ap (λ k. k * 2 ^ e) z in omega arith)
-    (λ z. let m : (i % 2) * 2 ^ e ≡ 1 * 2 ^ e = ap (λ k. k * 2 ^ e) z in omega arith) (parts i)
-  where
-    parts : (i : ℕ) → (i % 2 ≡ 0) ⊎ (i % 2 ≡ 1)
-    parts i = ⊎_elim (λ lt. inl (omega arith)) (λ le. inr (omega arith)) (cases_lt (i % 2) 1)
-
 same_ltb : (a b c d : ℕ) → (a < b → c < d) → (c < d → a < b) → ltb a b ≡ ltb c d
 same_ltb a b c d to from =
     ⊎_elim (λ lt. lt-ltb a b lt ∙ sym (lt-ltb c d (to lt)))

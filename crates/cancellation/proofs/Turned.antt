@@ -1,15 +1,13 @@
 -- Rows of bits with one bit turned, and the XOR of a row. Assumes nothing.
 use Rattle.std.proofs.Common.{◌≡◌, ℕ, zero, suc, ◌+◌, ◌<◌, List, [], ◌∷◌, ◌++◌, length, sym, refl, ap, ◌∙◌, suc-add, zero-add, arith}
-use lib.Bits.{bit_xor, xor_assoc, xor_comm, xor_self, xor_zero_r}
+use lib.Bits.{bit_xor, xor_assoc, xor_comm}
 use Rattle.code.specs.Transform.{xor_row}
+use Rattle.code.proofs.Transforms.{xor_twice, xor_swap}
 use Rattle.cancellation.specs.Rules.{parity, turned_at}
 use Rattle.cancellation.proofs.Combined.{no_tail, same_tail}
 
 xor_last : (a b c : ℕ) → bit_xor (bit_xor a b) c ≡ bit_xor (bit_xor a c) b
 xor_last a b c = xor_assoc a b c ∙ ap (bit_xor a) (xor_comm b c) ∙ sym (xor_assoc a c b)
-
-xor_twice : (a b : ℕ) → bit_xor (bit_xor a b) b ≡ a
-xor_twice a b = xor_assoc a b b ∙ ap (bit_xor a) (xor_self b) ∙ xor_zero_r a
 
 xor_both : (a b c : ℕ) → bit_xor (bit_xor a c) (bit_xor b c) ≡ bit_xor a b
 xor_both a b c = sym (xor_assoc (bit_xor a c) b c) ∙ ap (λ x. bit_xor x c) (xor_last a c b) ∙ xor_twice (bit_xor a b) c
@@ -43,25 +41,13 @@ length_turned p [] = refl
 length_turned zero (x ∷ xs) = refl
 length_turned (suc p) (x ∷ xs) = ap suc (length_turned p xs)
 
-xor_four : (a b c d : ℕ) → bit_xor (bit_xor a b) (bit_xor c d) ≡ bit_xor (bit_xor a c) (bit_xor b d)
-xor_four a b c d =
-    xor_assoc a b (bit_xor c d)
-    ∙ ap (bit_xor a) (sym (xor_assoc b c d) ∙ ap (λ x. bit_xor x d) (xor_comm b c) ∙ xor_assoc c b d)
-    ∙ sym (xor_assoc a c (bit_xor b d))
-
 pub parity-xor_row : (xs ys : List ℕ) → length xs ≡ length ys → parity (xor_row xs ys) ≡ bit_xor (parity xs) (parity ys)
 parity-xor_row [] [] e = refl
 parity-xor_row [] (y ∷ ys) e = no_tail y ys (sym e)
 parity-xor_row (x ∷ xs) [] e = no_tail x xs e
 parity-xor_row (x ∷ xs) (y ∷ ys) e =
-    ap (bit_xor (bit_xor x y)) (parity-xor_row xs ys (same_tail x xs y ys e)) ∙ xor_four x y (parity xs) (parity ys)
+    ap (bit_xor (bit_xor x y)) (parity-xor_row xs ys (same_tail x xs y ys e)) ∙ xor_swap x y (parity xs) (parity ys)
 
 pub parity_append : (xs ys : List ℕ) → parity (xs ++ ys) ≡ bit_xor (parity xs) (parity ys)
 parity_append [] ys = refl
 parity_append (x ∷ xs) ys = ap (bit_xor x) (parity_append xs ys) ∙ sym (xor_assoc x (parity xs) (parity ys))
-
--- the XOR of a row in which one bit is turned
-pub parity_turned : (p : ℕ) (xs : List ℕ) → p < length xs → parity (turned_at p xs) ≡ bit_xor (parity xs) 1
-parity_turned p [] h = let n : ⊥ = omega arith in absurd n
-parity_turned zero (x ∷ xs) h = xor_last x 1 (parity xs)
-parity_turned (suc p) (x ∷ xs) h = ap (bit_xor x) (parity_turned p xs (omega arith)) ∙ sym (xor_assoc x (parity xs) 1)

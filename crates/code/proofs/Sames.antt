@@ -32,12 +32,6 @@ rep_same front last =
     ap (λ k. same (front ++ (last ∷ [])) (replicate k 0 ++ (1 ∷ []))) n
     ∙ same_push front (replicate (length front) 0) last 1 (sym (length-replicate (length front) 0))
 
--- a row that begins with `first` has the pattern of a single parity check
-pub spc_same : (first : ℕ) (rest : List ℕ) → same (first ∷ rest) (pattern Spc (length (first ∷ rest))) ≡ (eqb first 0 && all_are 1 rest)
-spc_same first rest =
-    let n : suc (length rest) - 1 ≡ length rest = omega arith in
-    ap (λ k. eqb first 0 && same rest (replicate k 1)) n
-
 -- the same, of a row by its parts: k is all but the last place
 pub rep_row : (row : List ℕ) (k : ℕ) → 0 < length row → k ≡ length row - 1 →
     same row (pattern Rep (length row)) ≡ (all_are 0 (take k row) && eqb (get_or row (length row - 1) 0) 1)

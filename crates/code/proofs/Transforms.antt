@@ -17,7 +17,7 @@ get_or-xor_row (x ∷ xs) [] k e = let h : ⊥ = omega arith in absurd h
 get_or-xor_row (x ∷ xs) (y ∷ ys) zero e = refl
 get_or-xor_row (x ∷ xs) (y ∷ ys) (suc k) e = get_or-xor_row xs ys k (let h : length xs ≡ length ys = omega arith in h)
 
-xor_twice : (a b : ℕ) → bit_xor (bit_xor a b) b ≡ a
+pub xor_twice : (a b : ℕ) → bit_xor (bit_xor a b) b ≡ a
 xor_twice a b = xor_assoc a b b ∙ ap (bit_xor a) (xor_self b) ∙ xor_zero_r a
 
 -- XORing a row twice changes nothing
@@ -50,7 +50,7 @@ xor_row-append (x ∷ a) b [] d e = let h : ⊥ = omega arith in absurd h
 xor_row-append (x ∷ a) b (y ∷ c) d e =
     ap (λ rest. bit_xor x y ∷ rest) (xor_row-append a b c d (let h : length a ≡ length c = omega arith in h))
 
-xor_swap : (a b c d : ℕ) → bit_xor (bit_xor a b) (bit_xor c d) ≡ bit_xor (bit_xor a c) (bit_xor b d)
+pub xor_swap : (a b c d : ℕ) → bit_xor (bit_xor a b) (bit_xor c d) ≡ bit_xor (bit_xor a c) (bit_xor b d)
 xor_swap a b c d =
     xor_assoc a b (bit_xor c d)
     ∙ ap (bit_xor a) (sym (xor_assoc b c d) ∙ ap (λ x. bit_xor x d) (xor_comm b c) ∙ xor_assoc c b d)

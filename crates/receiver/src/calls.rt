@@ -1,8 +1,8 @@
 // What each of the receiver's calls does.
-ghost use Rattle.std.specs.Prelude.{◌≡◌, ◌+◌, ◌-◌, ◌^◌, ◌≤◌, ◌&&◌, cond, Some, None, min, T, length, take, Ok, Err};
+ghost use Rattle.std.specs.Prelude.{◌≡◌, ◌+◌, ◌-◌, ◌^◌, ◌≤◌, cond, Some, None, min, T, length, take, Ok, Err};
 ghost use Rattle.receiver.specs.Lent.{SameLoans};
 ghost use Rattle.receiver.specs.Admissions.{admitted, replied, in_force};
-ghost use Rattle.receiver.specs.Model.{caps_fault, right_buffers};
+ghost use Rattle.receiver.specs.Model.{caps_fault};
 ghost use Rattle.receiver.specs.Standings.{memory_fits, take_asked, TakesInHand, Advances};
 ghost use Rattle.receiver.specs.Words.{HandedOver, steps_kept, kept_after, answer_of};
 

@@ -7,7 +7,7 @@ ghost use Rattle.receiver.specs.Work.{allowed_kind};
 use code::kinds::SpanKind;
 
 // Rate-0 and Rep are settled up to 2 to the first cap, Rate-1 and SPC up to 2 to the second.
-#[derive(Clone, Copy)]
+#[derive(Clone, Copy, Debug, PartialEq, Eq)]
 pub struct Caps {
     pub first: u8,
     pub second: u8,

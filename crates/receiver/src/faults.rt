@@ -6,7 +6,7 @@ ghost use Rattle.receiver.specs.declared.faults.ReceiverFault.TheVariants.{Map};
 use code::faults::{MapFault, Report};
 
 // The first question about a receiver's call that was answered no, or a map's fault, carried whole.
-#[derive(Clone, Copy)]
+#[derive(Clone, Copy, Debug, PartialEq, Eq)]
 pub enum ReceiverFault {
     Map(MapFault),
     // The bytes, or a buffer, have not the right length.

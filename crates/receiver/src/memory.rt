@@ -1,7 +1,7 @@
 // The work memory that a receiver's caller hands it at each call.
 
 // What comes next of an open span.
-#[derive(Clone, Copy)]
+#[derive(Clone, Copy, Debug, PartialEq, Eq)]
 pub enum Next {
     // Its first step: it is settled, or its left half gets its values.
     First,
@@ -12,7 +12,7 @@ pub enum Next {
 }
 
 // A step that is to be made of the span of 2 ^ e positions from `start` on.
-#[derive(Clone, Copy)]
+#[derive(Clone, Copy, Debug, PartialEq, Eq)]
 pub struct Step {
     pub next: Next,
     pub start: usize,

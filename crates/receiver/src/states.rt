@@ -4,7 +4,7 @@ ghost use Rattle.receiver.specs.Admissions.{admitted, replied};
 
 use crate::faults::ReceiverFault;
 
-#[derive(Clone, Copy)]
+#[derive(Clone, Copy, Debug, PartialEq, Eq)]
 pub enum State {
     // No word is in hand.
     Idle,
@@ -15,7 +15,7 @@ pub enum State {
 }
 
 // The calls whose answer depends on whether a word is in hand.
-#[derive(Clone, Copy)]
+#[derive(Clone, Copy, Debug, PartialEq, Eq)]
 pub enum Asked {
     Remap,
     Word,

@@ -1,6 +1,6 @@
 use Rattle.std.proofs.Common.{◌≡◌, true, false, is_some, rules, tests}
 use Rattle.std.proofs.lemmas.Iterator.{IsFirst-from_position, YieldsList-from_slice}
-use Rattle.receiver.proofs.Loads.{lowest_from_position}
+use Rattle.code.proofs.Searched.{lowest_from_position}
 use Rattle.receiver.proofs.loading.lowest_unread.Goals as goal
 
 pub returns : goal.returns
