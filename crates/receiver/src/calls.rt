@@ -1,4 +1,4 @@
-// What each of the receiver's calls does.
+// What each of the receiver's calls does. The public calls add the law over runs, which follows from what is promised here.
 ghost use Rattle.std.specs.Prelude.{◌≡◌, ◌+◌, ◌-◌, ◌^◌, ◌≤◌, cond, Some, None, min, T, length, take, Ok, Err};
 ghost use Rattle.receiver.specs.Lent.{SameLoans};
 ghost use Rattle.receiver.specs.Admissions.{admitted, replied, in_force};

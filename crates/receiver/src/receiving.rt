@@ -68,7 +68,7 @@ impl<M: Map + Copy, S: Soft + Copy> Receiver<M, S> {
         self.put_caps(first, second)
     }
 
-    // Takes a word of N bytes in hand.
+    // Takes a word of N bytes in hand. A full word and a short one are two calls, as the user has them: they differ in which lengths are right.
     pub fn word(&mut self, memory: &mut Memory<S>, bytes: &[u8]) -> Result<(), ReceiverFault>
         ensures taken { TakesInHand S.Soft.kind M.Map.exponent (full_length (M.Map.exponent self.old.map) (length bytes.now)) bytes.now self.old memory.old self.new memory.new result }
         ensures rest { (self.new.map ≡ self.old.map) × (self.new.caps ≡ self.old.caps) }
