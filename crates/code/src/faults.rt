@@ -32,10 +32,10 @@ pub enum MapFault {
     Buffer,
 }
 
-// Kept beside those of the other layers: each layer has its own refusals, numbers and places.
 impl From<MapFault> for Report {
     ghost from_gives = { λ fault r. r ≡ report_of fault };
 
+    // Kept beside those of the other layers: each layer has its own refusals, numbers and places.
     fn from(fault: MapFault) -> Report {
         let (number, place) = match fault {
             MapFault::Exponent => (1, 0),

@@ -18,6 +18,7 @@ pub(crate) struct Progress {
 }
 
 // Goes on `from` the height of the pending steps.
+// Kept as a loop with the height in hand: each step leads to the next height, and none is made where no step is pending.
 pub(crate) fn make_steps<M: Map, S: Soft + Copy>(
     map: &M,
     caps: Caps,

@@ -31,6 +31,7 @@ fn enough_memory<M: Map, S>(map: &M, memory: &Memory<S>) -> Result<(), ReceiverF
 }
 
 // How many steps were made of the word in hand.
+// Kept as a function: a state is not another form of a number.
 fn steps_kept(state: State) -> u32
     ensures { result ≡ steps_kept state }
 {
@@ -52,6 +53,7 @@ fn kept_after(progress: Progress, steps: u32) -> State
 }
 
 // Copies the first bits of the work memory.
+// Kept with the size beside it: the memory may be larger than the map needs.
 fn copy_front<S>(memory: &Memory<S>, word: &mut [u8], size: usize)
     requires { (size ≤ length memory.now.bits.now) × (length word.old ≡ size) }
     ensures { word.new ≡ take size memory.now.bits.now }
@@ -96,6 +98,7 @@ impl<M: Map + Copy, S: Soft + Copy> Receiver<M, S> {
     }
 
     // Takes a word in hand whose length `fits`.
+    // Kept as a yes or no: in this question alone the two calls differ. And with what stays as clauses: a call changes some parts of a receiver, so no type says it.
     pub(crate) fn begin(
         &mut self,
         memory: &mut Memory<S>,
@@ -152,6 +155,7 @@ impl<M: Map + Copy, S: Soft + Copy> Receiver<M, S> {
     }
 
     // Makes as many steps as the allowance and the remaining work permit.
+    // Kept as a height: that no step is pending is what the height tells.
     pub(crate) fn go_on(
         &mut self,
         memory: &mut Memory<S>,

@@ -18,6 +18,7 @@ impl Caps {
     pub(crate) fn allows(self, e: u8, kind: SpanKind) -> bool
         ensures { result ≡ allowed_kind (caps_of self) e kind }
     {
+        // Kept as a match: four kinds, of which two go by each cap.
         match kind {
             SpanKind::Rate0 | SpanKind::Rep => e <= self.first,
             SpanKind::Rate1 | SpanKind::Spc => e <= self.second,

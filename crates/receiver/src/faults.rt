@@ -29,6 +29,7 @@ pub enum ReceiverFault {
 impl From<ReceiverFault> for Report {
     ghost from_gives = { λ fault r. r ≡ report_of fault };
 
+    // Kept beside those of the other layers: each layer has its own refusals, numbers and places.
     fn from(fault: ReceiverFault) -> Report {
         let (number, place) = match fault {
             ReceiverFault::Map(fault) => return Report::from(fault),

@@ -17,6 +17,7 @@ fn lowest_unread<S: Soft + Copy>(bytes: &[u8]) -> Option<usize>
 }
 
 // Does every byte read? Else the lowest that does not is refused.
+// Kept as a match: what is found is the refusal, and `?` goes the other way.
 pub(crate) fn all_read<S: Soft + Copy>(bytes: &[u8]) -> Result<(), ReceiverFault>
     ensures { result ≡ replied (option_map ReceiverFault.Byte (lowest_no (λ i. is_some (S.Soft.kind.read (slice_index bytes.now i))) 0 (length bytes.now))) tt }
 {
@@ -27,6 +28,7 @@ pub(crate) fn all_read<S: Soft + Copy>(bytes: &[u8]) -> Result<(), ReceiverFault
 }
 
 // Puts the values of a word of `size` positions on an empty stack: those of its bytes, then the fill. The fill stands also for a byte that does not read.
+// Kept as pushes, with the size beside the memory: the stack is written once for every element, and the memory may be larger than the map needs.
 pub(crate) fn load<S: Soft + Copy>(soft: &mut [S], bytes: &[u8], size: usize)
     requires short { length bytes.now ≤ size }
     requires room { size ≤ length soft.old }
@@ -45,6 +47,7 @@ pub(crate) fn load<S: Soft + Copy>(soft: &mut [S], bytes: &[u8], size: usize)
 }
 
 // No bit of `size` positions is decided: each is 2.
+// Kept with the size beside it: the memory may be larger than the map needs.
 pub(crate) fn clear_bits(bits: &mut [u8], size: usize)
     requires { size ≤ length bits.old }
     ensures { bits.new ≡ replicate size 2 ++ drop size bits.old }

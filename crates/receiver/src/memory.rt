@@ -12,6 +12,7 @@ pub enum Next {
 }
 
 // A step that is to be made of the span of 2 ^ e positions from `start` on.
+// Kept as offsets: it lies in memory that others lend and may have written.
 #[derive(Clone, Copy, Debug, PartialEq, Eq)]
 pub struct Step {
     pub next: Next,
@@ -20,6 +21,7 @@ pub struct Step {
 }
 
 // Lent memory: 2N soft numbers, 64 pending steps and N bits, or more of each.
+// Kept beside an open span's parts: this is the caller's, of whatever sizes.
 #[derive(Drop)]
 pub struct Memory<'a, S> {
     pub soft: &'a mut [S],

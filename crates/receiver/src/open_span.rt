@@ -6,6 +6,7 @@ use code::encode::position_count;
 use code::map::Map;
 
 // 2 ^ e positions from `start` on, within a code of 2 ^ n positions, and how many steps are pending below its own.
+// Kept as offsets, beside those of a step: the ghost fields say what was seen of them, which nothing says of a step.
 #[derive(Clone, Copy)]
 pub(crate) struct Spot {
     pub(crate) n: u8,
@@ -20,6 +21,7 @@ pub(crate) struct Spot {
 
 impl Spot {
     // The span of the step on top of `height` pending ones, if it lies within the code.
+    // Kept field by field: a span has what its step has, and what was seen of it.
     pub(crate) fn of<M: Map>(map: &M, step: Step, height: usize) -> Option<Self>
         ensures some { IfSome result (λ s. (s.n ≡ M.Map.exponent map.now) × (s.start ≡ step.start) × (s.e ≡ step.e) × (s.below ≡ height - 1)) }
         ensures none { result ≡ None → step.e ≤ M.Map.exponent map.now → step.start + 2 ^ step.e ≤ 2 ^ M.Map.exponent map.now → height ≤ 64 → ⊥ }
@@ -64,6 +66,7 @@ impl Spot {
     }
 
     // A step of it.
+    // Kept field by field: a step has no more than is written here.
     pub(crate) fn step(self, next: Next) -> Step
         ensures { result ≡ record { next = next; start = self.start; e = self.e } }
     {
@@ -98,6 +101,7 @@ impl Spot {
 }
 
 // An open span and the parts of the work memory, each large enough for its code.
+// Kept with the three parts side by side: of a lent struct within a struct the check makes no proof.
 #[derive(Drop)]
 pub(crate) struct OpenSpan<'a, S> {
     pub(crate) spot: Spot,

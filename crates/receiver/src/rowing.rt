@@ -15,7 +15,7 @@ use code::kinds::SpanKind;
 use soft::soft::Soft;
 
 // The row of a right half, after that of its span, which begins at `base`, with the bits of the left half, which begin at `start`.
-// They are only read, and lent as `&mut`: of a part that a struct lends as `&` the check keeps no record that it stayed as it was.
+// Kept as `&mut`, with offsets beside it: the bits are only read, but of a part that a struct lends as `&` the check keeps no record that it stayed as it was.
 fn right_row<S: Soft + Copy>(
     soft: &mut [S],
     base: usize,
@@ -33,6 +33,7 @@ fn right_row<S: Soft + Copy>(
 
 impl<'a, S: Soft + Copy> OpenSpan<'a, S> {
     // Its bits by the rule of its kind. Its row is no longer needed.
+    // Kept as a clause, here and below: that the loans are the same is told of before and after, and no type says it.
     pub(crate) fn settle(&mut self, kind: SpanKind)
         ensures soft { take (base self.old.spot.n self.old.spot.e) self.new.soft.now ≡ take (base self.old.spot.n self.old.spot.e) self.old.soft.now }
         ensures pending { self.new.pending.now ≡ self.old.pending.now }
@@ -53,6 +54,7 @@ impl<'a, S: Soft + Copy> OpenSpan<'a, S> {
     }
 
     // The row of its left half, after its own. A single position has no half.
+    // Kept beside the XOR of halves: each lends another part to another rule.
     pub(crate) fn check_halves(&mut self)
         ensures soft { self.old.spot.e ≢ 0 → self.new.soft.now ≡ with_left S.Soft.kind (base self.old.spot.n self.old.spot.e) (2 ^ (self.old.spot.e - 1)) self.old.soft.now }
         ensures rest { (self.new.spot ≡ self.old.spot) × (self.new.pending.now ≡ self.old.pending.now) × (self.new.bits.now ≡ self.old.bits.now) }
@@ -82,6 +84,7 @@ impl<'a, S: Soft + Copy> OpenSpan<'a, S> {
     }
 
     // Its bits from those of its halves.
+    // Kept beside the check of halves: each lends another part to another rule.
     pub(crate) fn xor_halves(&mut self)
         ensures bits { self.old.spot.e ≢ 0 → self.new.bits.now ≡ with_word (2 ^ (self.old.spot.e - 1)) self.old.bits.now self.old.spot.start }
         ensures beyond { drop (2 ^ self.old.spot.n) self.new.bits.now ≡ drop (2 ^ self.old.spot.n) self.old.bits.now }

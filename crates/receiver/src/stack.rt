@@ -3,7 +3,7 @@ ghost use Rattle.std.specs.Prelude.{◌≡◌, ◌+◌, ◌-◌, if◌then◌els
 ghost use Rattle.receiver.specs.Stacks.{top_of};
 
 // The first `len` slots are on the stack, the last of them at its top.
-// Slots with a length beside them, and no library vector: those own their memory, and a receiver's is lent at each call.
+// Kept as slots with a length beside them: the library's vectors own their memory, and a receiver's is lent at each call.
 #[derive(Drop)]
 pub struct Stack<'a, E> {
     pub(crate) slots: &'a mut [E],
@@ -25,7 +25,7 @@ impl<'a, E: Copy> Stack<'a, E> {
         ensures len { self.new.len ≡ (if is_ok result then self.old.len + 1 else self.old.len) }
         ensures same { self.new.slots.ghost_name ≡ self.old.slots.ghost_name }
     {
-        // Written by its index: of `get_mut` on a part that is lent to a struct the check keeps no record of what was written.
+        // Kept as an index: of `get_mut` on a part that is lent to a struct the check keeps no record of what was written.
         let len = self.len;
         if len >= self.slots.len() {
             return Err(x);
@@ -44,7 +44,7 @@ impl<'a, E: Copy> Stack<'a, E> {
     {
         let below = self.len.checked_sub(1)?;
         self.len = below;
-        // Read by its index: of `get` on a part that is lent to a struct the check keeps no record that all stayed as it was.
+        // Kept as an index: of `get` on a part that is lent to a struct the check keeps no record that all stayed as it was.
         if below >= self.slots.len() {
             return None;
         }

@@ -13,6 +13,7 @@ use code::map::Map;
 use soft::soft::Soft;
 
 // The first step of a span: it is settled, or its left half gets its values.
+// Kept as an else: a span that the map refuses is passed over, and that is no refusal of the call.
 fn first_step<M: Map, S: Soft + Copy>(map: &M, caps: Caps, span: &mut OpenSpan<S>) -> usize
     requires { span.old.spot.n ≡ M.Map.exponent map.now }
     ensures follows { Follows S.Soft.kind (M.Map.exponent map.now) (M.Map.marks map.now) (caps_of caps) first (record { next = Next.First; start = span.old.spot.start; e = span.old.spot.e }) (span.old.spot.below + 1) span.old.soft.now span.old.pending.now span.old.bits.now result span.new.soft.now span.new.pending.now span.new.bits.now }
@@ -38,6 +39,7 @@ fn first_step<M: Map, S: Soft + Copy>(map: &M, caps: Caps, span: &mut OpenSpan<S
 }
 
 // Makes the step that comes next. What the pending steps say is trusted only as far as it stays within the memory.
+// Kept as heights, a match and parts side by side: the height is what leads from step to step, which step comes is plain data in lent memory, and of a lent struct within a struct the check makes no proof.
 pub(crate) fn make_step<M: Map, S: Soft + Copy>(
     map: &M,
     caps: Caps,

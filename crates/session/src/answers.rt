@@ -2,6 +2,7 @@
 ghost use Rattle.std.specs.Prelude.{◌≡◌, length};
 
 // What the line of a command that was done adds: nothing, numbers, a word, or the count of steps with a message and a word.
+// Kept as numbers: they are what the line prints.
 #[derive(Clone, Copy)]
 pub(crate) enum Answer<'b> {
     Nothing,

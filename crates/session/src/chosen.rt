@@ -19,6 +19,7 @@ impl<'a> Map for Chosen<'a> {
 
     ghost marks = { marks_of };
 
+    // Kept as a match, here and below: the makes are two, and the receiver copies its map, which a `dyn Map` does not allow.
     fn n(&self) -> u8 {
         match self {
             Chosen::Ranked(map) => map.n(),
@@ -26,6 +27,7 @@ impl<'a> Map for Chosen<'a> {
         }
     }
 
+    // Kept as a match: as above.
     fn mark(&self, position: usize) -> Result<Mark, MapFault> {
         match self {
             Chosen::Ranked(map) => map.mark(position),
@@ -33,6 +35,7 @@ impl<'a> Map for Chosen<'a> {
         }
     }
 
+    // Kept as a match: as above.
     fn kind(&self, start: usize, length: usize) -> Result<Option<SpanKind>, MapFault> {
         match self {
             Chosen::Ranked(map) => map.kind(start, length),

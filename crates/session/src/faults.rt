@@ -8,7 +8,7 @@ use code::faults::{MapFault, Report};
 use receiver::faults::ReceiverFault;
 
 // Why a session or one of its commands was refused. A number is the offset of the command's letter in the session.
-#[derive(Clone, Copy)]
+#[derive(Clone, Copy, Debug, PartialEq, Eq)]
 pub enum SessionFault {
     // The call that the command makes was refused.
     Receiver(ReceiverFault),
@@ -32,6 +32,7 @@ pub enum SessionFault {
 impl From<SessionFault> for Report {
     ghost from_gives = { λ fault r. r ≡ report_of fault };
 
+    // Kept beside those of the other layers: each layer has its own refusals, numbers and places.
     fn from(fault: SessionFault) -> Report {
         let (number, place) = match fault {
             SessionFault::Receiver(fault) => return Report::from(fault),

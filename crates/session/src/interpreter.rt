@@ -98,6 +98,7 @@ fn push_lines<'a, S: Soft + Copy>(
 }
 
 // The lines of a session that begins well, in its kind of soft number, with work memory for the largest code.
+// Kept as arrays, made in each arm: the memory is fixed, and a table of 2048 values of a type parameter is not known to have fewer than 2^63 bytes.
 fn push_session<'a>(
     text: &mut String,
     sources: Sources<'a>,

@@ -19,6 +19,7 @@ pub(crate) struct Reading<'a> {
 }
 
 // The first `count` bytes, and those after them.
+// Kept with the count beside the bytes: it is what the operand or the map asks for.
 fn split<'a>(at: usize, count: usize, bytes: &'a [u8]) -> Result<(&'a [u8], &'a [u8]), SessionFault>
     ensures { MatchResult result (λ read. (count ≤ length bytes.now) × (read.0.now ≡ take count bytes.now) × (read.1.now ≡ drop count bytes.now)) (λ fault. (length bytes.now < count) × (fault ≡ Cut at)) }
 {

@@ -35,6 +35,7 @@ impl<'a> Sources<'a> {
 }
 
 // Where an order's ranks stand: `count` bytes from the offset `place` on.
+// Kept as an offset: the ranks are handed out as a part of what holds them, with their place.
 #[derive(Clone, Copy)]
 pub(crate) struct Record {
     pub(crate) n: u8,
@@ -62,6 +63,7 @@ fn record_at(shelf: &[u8], at: usize) -> Option<Record>
 }
 
 // The record of a slot, counted from 0.
+// Kept as a loop with an offset in hand: where a record begins is known only once the one before was read.
 #[tactic(auto, using(crate::proofs::Records::slot_more, crate::proofs::Records::slot_none, crate::proofs::Records::slot_here))]
 pub(crate) fn find_slot(shelf: &[u8], slot: u8) -> Option<Record>
     ensures found { result ≡ slot_record slot 0 shelf.now }

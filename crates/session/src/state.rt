@@ -97,6 +97,7 @@ impl<'a, S: Soft + Copy> State<'a, S> {
     }
 
     // `B`
+    // Kept beside the other commands: each makes its own call of the receiver, and the call's contract is its own.
     fn put_caps(
         &mut self,
         at: usize,
@@ -111,6 +112,7 @@ impl<'a, S: Soft + Copy> State<'a, S> {
     }
 
     // `X`
+    // Kept beside the other commands, for the same reason.
     fn drop_word(&mut self, at: usize) -> Result<Answer<'static>, SessionFault>
         ensures { Does S.Soft.kind (do_drop S.Soft.kind at) result self.old self.new }
     {
@@ -120,6 +122,7 @@ impl<'a, S: Soft + Copy> State<'a, S> {
     }
 
     // `W`
+    // Kept beside the other commands: each makes its own call of the receiver.
     fn word(
         &mut self,
         at: usize,
@@ -134,7 +137,8 @@ impl<'a, S: Soft + Copy> State<'a, S> {
         Ok(Answer::Nothing)
     }
 
-    // `V`. Kept beside `W`: one function for both would need a flag that says which of the receiver's calls is meant.
+    // `V`
+    // Kept beside `W`: one function for both would need a flag that says which of the receiver's calls is meant.
     fn short_word(
         &mut self,
         at: usize,
@@ -150,6 +154,7 @@ impl<'a, S: Soft + Copy> State<'a, S> {
     }
 
     // `A`
+    // Kept beside the other commands: each makes its own call of the receiver.
     fn advance(
         &mut self,
         at: usize,

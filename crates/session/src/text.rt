@@ -67,6 +67,7 @@ struct Letter {
 
 impl Letter {
     // A letter that is not known is shown as `?`, and so is that of a session that is too long.
+    // Kept as numbers: the rule of the lines is told by the number that is printed.
     fn shown(report: Report, byte: u8) -> Letter
         requires { shown_letter report byte < 128 }
         ensures { result.byte ≡ shown_letter report byte }
@@ -89,6 +90,7 @@ impl fmt::Display for Letter {
 }
 
 // Bits as the characters 0 and 1.
+// Kept beside a message: that may be empty, and is then shown otherwise.
 #[derive(Clone, Copy)]
 struct Bits<'b>(&'b [u8]);
 
@@ -103,6 +105,7 @@ impl fmt::Display for Bits<'_> {
     }
 }
 
+// Kept as a byte: the bits are those of the buffers.
 fn bit_char(bit: u8) -> char
     ensures { result ≡ (if nat_eq bit 0 then 48 else 49) }
 {
@@ -110,6 +113,7 @@ fn bit_char(bit: u8) -> char
 }
 
 // The bits of a message, or `-` if there are none.
+// Kept beside bits: those are never shown as `-`.
 #[derive(Clone, Copy)]
 struct Message<'b>(&'b [u8]);
 
