@@ -7,6 +7,7 @@ use code::transform;
 use soft::soft::Soft;
 
 // `rows` is the row of a span and room for that of its left half, which is written: the check of the span's two halves.
+// Kept with a number for the place in the other rows, here and below: a zip over `iter_mut` leaves nothing known of what was written.
 pub fn check_row<S: Soft + Copy>(rows: &mut [S]) -> Result<(), RowFault>
     ensures { Rowed (λ h. length rows.old ≡ 3 * h) (with_check S.Soft.kind rows.old) rows.old rows.new result }
 {

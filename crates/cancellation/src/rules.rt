@@ -38,6 +38,7 @@ pub(crate) fn single_parity<S: Soft + Copy>(values: &[S], bits: &mut [u8])
 }
 
 // Joins a row onto the one before it with β = 0.
+// Kept with a number for the place in the other row: a zip over `iter_mut` leaves nothing known of what was written.
 fn join_onto<S: Soft + Copy>(left: &mut [S], right: &[S])
     requires { length left.old ≤ length right.now }
     ensures { left.new ≡ join_row S.Soft.kind left.old right.now (replicate (length left.old) 0) }

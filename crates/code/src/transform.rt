@@ -3,7 +3,7 @@ ghost use Rattle.std.specs.Prelude.{◌≡◌, ℕ, ◌/◌, ◌^◌, ◌++◌, 
 ghost use Rattle.code.specs.Transform.{transform, xor_row};
 
 // XORs the right half of a row onto its left half.
-// Kept beside the one of rows, which calls it: that one refuses a row that has no halves, and this one has no refusal.
+// Kept beside the one of rows, which calls it: that one refuses a row that has no halves, and this one has no refusal. And with a number for the place in the other half: a zip over `iter_mut` leaves nothing known of what was written.
 pub fn xor_halves(bits: &mut [u8])
     ensures { let half = length bits.old / 2 in bits.new ≡ xor_row (take half bits.old) (drop half bits.old) ++ drop half bits.old }
 {

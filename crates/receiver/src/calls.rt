@@ -42,6 +42,7 @@ fn steps_kept(state: State) -> u32
 }
 
 // What is kept of the word in hand after some steps more.
+// Kept as a height: 0 is what says that no step is pending.
 fn kept_after(progress: Progress, steps: u32) -> State
     ensures { result ≡ kept_after progress.height (min (steps + progress.made) (2 ^ 32 - 1)) }
 {

@@ -43,6 +43,7 @@ impl Spot {
     }
 
     // How many positions it has.
+    // Kept beside that of code, here and below: that one asks that n is at most 10, and stays in its crate.
     pub(crate) fn length(self) -> usize
         ensures { result ≡ 2 ^ self.e }
     {

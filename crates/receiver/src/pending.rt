@@ -19,6 +19,7 @@ pub(crate) fn top_step(pending: &mut [Step], height: usize) -> Option<Step>
 }
 
 // Above `below` steps a later step of some span, and above it a step of one of its halves.
+// Kept with the height beside it: only the height tells how much of the lent memory counts.
 pub(crate) fn push_half(pending: &mut [Step], below: usize, later: Step, half: Step) -> usize
     requires { below + 1 < length pending.old }
     ensures height { result ≡ below + 2 }

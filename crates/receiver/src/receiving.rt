@@ -69,6 +69,7 @@ impl<M: Map + Copy, S: Soft + Copy> Receiver<M, S> {
     }
 
     // Takes a word of N bytes in hand. A full word and a short one are two calls, as the user has them: they differ in which lengths are right.
+    // Kept as a clause, here and below: that the loans are the same is told of before and after, and no type says it.
     pub fn word(&mut self, memory: &mut Memory<S>, bytes: &[u8]) -> Result<(), ReceiverFault>
         ensures taken { TakesInHand S.Soft.kind M.Map.exponent (full_length (M.Map.exponent self.old.map) (length bytes.now)) bytes.now self.old memory.old self.new memory.new result }
         ensures rest { (self.new.map ≡ self.old.map) × (self.new.caps ≡ self.old.caps) }

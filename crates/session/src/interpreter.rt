@@ -109,6 +109,7 @@ fn push_session<'a>(
 {
     let Opened { header, commands } = opened;
     let make = header.make;
+    // Kept as a step that is never made: an array has a value at each place.
     let idle = Step {
         next: Next::First,
         start: 0,

@@ -208,6 +208,7 @@ impl<'a, S: Soft + Copy> State<'a, S> {
     }
 
     // Does what a command asks, whose letter stands at offset `at`.
+    // Kept as a match: the commands are a closed list, and each has its own operands and its own function.
     #[tactic(auto, unfolding(crate::specs::Sessions::perform))]
     pub(crate) fn run<'b>(
         &mut self,
