@@ -6,7 +6,8 @@ ghost use Rattle.cancellation.specs.Rules.{Turns, size_at};
 use soft::soft::Soft;
 
 // Is place i, of this size, to be turned rather than place j?
-// Kept as a test and two comparisons: comparing pairs would reverse both numbers at every place, and few sizes are equal. Numbers of as many bits stand in one order, read in reverse within a span or within a word.
+// Kept as a test and two comparisons: comparing pairs would reverse both numbers also where the sizes differ.
+// Numbers below 2 ^ e stand in the same order whether e bits or all 64 are reversed.
 fn turns_before(size: u32, i: usize, other: u32, j: usize) -> bool
     ensures { result ≡ (if nat_eq size other then nat_lt (reverse_bits w64 i) (reverse_bits w64 j) else nat_lt size other) }
 {
@@ -18,7 +19,7 @@ fn turns_before(size: u32, i: usize, other: u32, j: usize) -> bool
 }
 
 // The place of a span to turn: of least size, and among equals the one whose number, read in reverse, is smallest. A row of no values has none.
-// Kept with the place and its size in hand: the library's `min_by_key` would make a key of every place.
+// Kept as a loop with the place and its size in hand: `min_by_key` was measured to take more than twice the time, since it reverses the number of every place.
 pub(crate) fn place_to_turn<S: Soft + Copy>(values: &[S]) -> Option<usize>
     ensures turns { (e : ℕ) → length values.now ≡ 2 ^ e → IsSomeAnd result (Turns e (size_at S.Soft.kind values.now) (2 ^ e)) }
     ensures within { IfSome result (λ place. place < length values.now) }

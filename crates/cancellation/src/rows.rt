@@ -25,7 +25,7 @@ pub fn check_row<S: Soft + Copy>(rows: &mut [S]) -> Result<(), RowFault>
 
 // `rows` is the row of a span and room for that of its right half, which is written: the join of the span's two halves,
 // with the bits of the left half as β.
-// Kept as bytes: the bits are the caller's.
+// Kept as bytes: in memory a bit can also be 2, not decided, and a row of `bool` would be a copy.
 pub fn join_row<S: Soft + Copy>(rows: &mut [S], bits: &[u8]) -> Result<(), RowFault>
     ensures { Rowed (λ h. (length rows.old ≡ 3 * h) × (length bits.now ≡ h)) (with_join S.Soft.kind rows.old bits.now) rows.old rows.new result }
 {

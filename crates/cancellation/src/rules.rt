@@ -24,7 +24,7 @@ pub(crate) fn write_signs<S: Soft + Copy>(values: &[S], bits: &mut [u8]) -> u8
 }
 
 // Single parity check: the signs, with one of them turned where their XOR is 1.
-// Kept as a byte, and with the lengths as a clause: the XOR is of the bytes written, and a struct of the two rows would be made for one call.
+// Kept as a byte, and with the lengths as a clause: the XOR is told of the bytes as the rule tells it, and a struct of the two rows would be made for one call.
 pub(crate) fn single_parity<S: Soft + Copy>(values: &[S], bits: &mut [u8])
     requires { length bits.old ≡ length values.now }
     ensures { (e : ℕ) → length values.now ≡ 2 ^ e → Rule S.Soft.kind Spc e values.now bits.new }

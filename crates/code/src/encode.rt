@@ -83,7 +83,7 @@ pub fn encode<M: Map>(map: &M, message: &[u8], word: &mut [u8]) -> Result<(), Ma
 }
 
 // Takes the entries at the informed positions, in rising order.
-// Kept counting the next place by hand: asked for its next place, an iterator over places leaves nothing known of what is written there.
+// Kept counting the next place by hand: tried were an iterator over the places, a row that is cut shorter at each place, and a chain that numbers the informed positions; the check then knows nothing of what was written, or not that there is room.
 fn gather<M: Map>(map: &M, bits: &[u8], message: &mut [u8])
     requires { (length bits.now ≡ length (M.marks map.now)) × (length message.old ≡ informed_count (M.marks map.now)) }
     ensures { message.new ≡ informed (M.marks map.now) bits.now }

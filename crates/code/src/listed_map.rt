@@ -62,7 +62,7 @@ impl<'a> Map for Listed<'a> {
     }
 
     fn mark(&self, position: usize) -> Result<Mark, MapFault> {
-        // Kept beside the ranked map's, and as a byte: the mark is read where the caller has it.
+        // Kept beside the ranked map's, and as a byte: there a rank is compared, and a row of `Mark` would be a copy of the caller's.
         let mark = self.marks.get(position).ok_or(MapFault::Outside)?;
         Ok(Mark::from(*mark == 1))
     }

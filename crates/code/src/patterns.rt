@@ -13,7 +13,7 @@ fn is_constant(row: &[u8], value: u8) -> bool
 }
 
 // Is only the last mark informed?
-// Kept as bytes: the marks are the caller's.
+// Kept as bytes: a row of `Mark` would be a copy, and nothing here allocates.
 fn is_repetition(row: &[u8]) -> bool
     ensures { result ≡ same row.now (pattern Rep (length row.now)) }
 {
@@ -24,7 +24,7 @@ fn is_repetition(row: &[u8]) -> bool
 }
 
 // Is only the first mark frozen?
-// Kept as bytes: the marks are the caller's.
+// Kept as bytes: a row of `Mark` would be a copy, and nothing here allocates.
 fn is_single_parity(row: &[u8]) -> bool
     ensures { result ≡ same row.now (pattern Spc (length row.now)) }
 {

@@ -26,7 +26,7 @@ fn rank_is_written(bytes: &[u8], position: usize)
 {}
 
 // The rank of a position.
-// Kept as an offset: the ranks lie in the caller's bytes, two to a position.
+// Kept as two offsets: a part of two bytes would have to be cut out, and asked whether it is there, at every look.
 pub(crate) fn rank_at(bytes: &[u8], position: usize) -> usize
     requires { 2 * position + 1 < length bytes.now }
     ensures { result ≡ slice_index (ranks_of bytes.now) position }

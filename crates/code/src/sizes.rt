@@ -5,7 +5,7 @@ ghost use Rattle.code.specs.Spans.{good_exponent, power_up_to, is_span};
 use crate::faults::MapFault;
 
 // 2 ^ n, for the n of a code or of a span within one.
-// Kept in this crate and in the receiver's: a public function asks nothing of its caller, and this one asks that n is at most 10.
+// Kept beside the receiver's `Spot::length`: a public function asks nothing of its caller, and this one asks that n is at most 10.
 pub(crate) fn two_to(n: u8) -> usize
     requires { n ≤ 10 }
     ensures { result ≡ 2 ^ n }

@@ -4,7 +4,8 @@ ghost use Rattle.soft.specs.Erasure.{erasure, erasure_laws};
 use crate::soft::Soft;
 
 // `true` is sign 1.
-// Kept as a sign beside a size, and beside whole numbers: a soft number has both, also at size zero, and the two sizes are of two types.
+// Kept as a sign beside a size: a soft number has both, also at size zero.
+// Kept beside whole numbers: with one struct over the type of the size both kinds would be one type to the contracts, where every size is a number, and a value of one could be taken for the other's.
 #[derive(Clone, Copy)]
 pub struct Erasure {
     pub sign: bool,
@@ -24,7 +25,7 @@ impl Soft for Erasure {
         u32::from(self.size)
     }
 
-    // Kept beside that of whole numbers: the integer types have no trait with `abs_diff`, and the sizes of joins differ.
+    // Kept beside that of whole numbers: `^` and `min` of the library are all that a common function would hold.
     fn check(self, other: Erasure) -> Erasure {
         Erasure {
             sign: self.sign ^ other.sign,
@@ -32,7 +33,7 @@ impl Soft for Erasure {
         }
     }
 
-    // Kept beside that of whole numbers, for the same reason; β is a bit.
+    // Kept beside that of whole numbers: the sizes of joins differ by kind, the library has no trait with `abs_diff`, and what is left is one test. β is a bit.
     fn join(self, other: Erasure, beta: bool) -> Erasure {
         let turned = self.sign ^ beta;
         // Both sizes are made first, so that choosing one takes no jump.
@@ -71,7 +72,7 @@ impl Soft for Erasure {
         }
     }
 
-    // Kept beside that of whole numbers: it makes another type.
+    // Kept beside that of whole numbers: each kind tells its own fill, which is its trait's promise.
     fn fill() -> Erasure {
         Erasure {
             sign: false,

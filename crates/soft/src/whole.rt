@@ -7,7 +7,8 @@ use crate::soft::Soft;
 const STOP: u32 = 130048;
 
 // `true` is sign 1.
-// Kept as a sign beside a size, and beside erasures: a soft number has both, also at size zero, and the two sizes are of two types.
+// Kept as a sign beside a size: a soft number has both, also at size zero.
+// Kept beside erasures: with one struct over the type of the size both kinds would be one type to the contracts, where every size is a number, and a value of one could be taken for the other's.
 #[derive(Clone, Copy)]
 pub struct Whole {
     pub sign: bool,
@@ -27,7 +28,7 @@ impl Soft for Whole {
         self.size
     }
 
-    // Kept beside that of erasures: the integer types have no trait with `abs_diff`, and the sizes of joins differ.
+    // Kept beside that of erasures: `^` and `min` of the library are all that a common function would hold.
     fn check(self, other: Whole) -> Whole {
         Whole {
             sign: self.sign ^ other.sign,
@@ -35,7 +36,7 @@ impl Soft for Whole {
         }
     }
 
-    // Kept beside that of erasures, for the same reason; β is a bit.
+    // Kept beside that of erasures: the sizes of joins differ by kind, the library has no trait with `abs_diff`, and what is left is one test. β is a bit.
     fn join(self, other: Whole, beta: bool) -> Whole {
         let turned = self.sign ^ beta;
         // Both sizes are made first, so that choosing one takes no jump.
@@ -62,7 +63,7 @@ impl Soft for Whole {
         })
     }
 
-    // Kept beside that of erasures: it makes another type.
+    // Kept beside that of erasures: each kind tells its own fill, which is its trait's promise.
     fn fill() -> Whole {
         Whole {
             sign: false,
