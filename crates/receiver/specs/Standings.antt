@@ -1,4 +1,4 @@
--- A receiver and its memory, before a call and after it, as the calls' contracts name them: cited by every public call of the receiver. Assumes nothing.
+-- A receiver and its memory, before a call and after it, as the calls' contracts name them: cited by every public call of the receiver but `new` and `map`. Assumes nothing.
 use Rattle.std.specs.Prelude.{ℕ, Bool, List, Option, Result}
 use Rattle.soft.specs.Kind.{Kind}
 use Rattle.receiver.specs.declared.faults.ReceiverFault.{ReceiverFault}
@@ -27,8 +27,8 @@ TakesInHand kind exponent fits bytes was before now after answer =
     before.soft.now after.soft.now before.pending.now after.pending.now before.bits.now after.bits.now was.state now.state answer
 
 -- an advance, whatever the memory holds
-abbrev pub Advances : {M S : Type 0} → Kind S → (M → ℕ) → (M → List ℕ) → ℕ → Receiver M S → Memory S → Receiver M S → Memory S → Result (ℕ × Bool) ReceiverFault → Type 0
-Advances kind exponent marks allowance was before now after answer =
+abbrev pub AdvancesIn : {M S : Type 0} → Kind S → (M → ℕ) → (M → List ℕ) → ℕ → Receiver M S → Memory S → Receiver M S → Memory S → Result (ℕ × Bool) ReceiverFault → Type 0
+AdvancesIn kind exponent marks allowance was before now after answer =
     Goes kind (exponent was.map) (marks was.map) was.caps allowance (advance_door was.state (memory_fits (exponent was.map) before)) was.state now.state
     before.soft.now before.pending.now before.bits.now after.soft.now after.pending.now after.bits.now answer
 

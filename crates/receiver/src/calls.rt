@@ -3,7 +3,7 @@ ghost use Rattle.std.specs.Prelude.{◌≡◌, ◌+◌, ◌-◌, ◌^◌, ◌≤
 ghost use Rattle.receiver.specs.Lent.{SameLoans};
 ghost use Rattle.receiver.specs.Admissions.{admitted, replied, in_force};
 ghost use Rattle.receiver.specs.Model.{caps_fault};
-ghost use Rattle.receiver.specs.Standings.{memory_fits, take_asked, TakesInHand, Advances};
+ghost use Rattle.receiver.specs.Standings.{memory_fits, take_asked, TakesInHand, AdvancesIn};
 ghost use Rattle.receiver.specs.Words.{HandedOver, steps_kept, kept_after, answer_of};
 
 use crate::advancing::{Progress, make_steps};
@@ -31,7 +31,7 @@ fn enough_memory<M: Map, S>(map: &M, memory: &Memory<S>) -> Result<(), ReceiverF
 }
 
 // How many steps were made of the word in hand.
-// Kept as a function: a state is not another form of a number.
+// Kept as a function, and no From: the count is one thing that a state tells.
 fn steps_kept(state: State) -> u32
     ensures { result ≡ steps_kept state }
 {
@@ -54,7 +54,8 @@ fn kept_after(progress: Progress, steps: u32) -> State
 }
 
 // Copies the first bits of the work memory.
-// Kept with the size beside it: the memory may be larger than the map needs.
+// Kept as a function that is lent the memory to read: so it needs no clause that the memory stays.
+// Kept with the size beside it: memory may be larger than the map needs.
 fn copy_front<S>(memory: &Memory<S>, word: &mut [u8], size: usize)
     requires { (size ≤ length memory.now.bits.now) × (length word.old ≡ size) }
     ensures { word.new ≡ take size memory.now.bits.now }
@@ -99,7 +100,8 @@ impl<M: Map + Copy, S: Soft + Copy> Receiver<M, S> {
     }
 
     // Takes a word in hand whose length `fits`.
-    // Kept as a yes or no: in this question alone the two calls differ. And with what stays as clauses: a call changes some parts of a receiver, so no type says it.
+    // Kept as a yes or no: the two calls differ in this question alone.
+    // Kept with what stays as clauses: a call changes only some parts of a receiver, and no type says that.
     pub(crate) fn begin(
         &mut self,
         memory: &mut Memory<S>,
@@ -162,7 +164,7 @@ impl<M: Map + Copy, S: Soft + Copy> Receiver<M, S> {
         memory: &mut Memory<S>,
         allowance: u16,
     ) -> Result<Advance, ReceiverFault>
-        ensures goes { Advances S.Soft.kind M.Map.exponent M.Map.marks allowance self.old memory.old self.new memory.new (answer_of result) }
+        ensures goes { AdvancesIn S.Soft.kind M.Map.exponent M.Map.marks allowance self.old memory.old self.new memory.new (answer_of result) }
         ensures rest { (self.new.map ≡ self.old.map) × (self.new.caps ≡ self.old.caps) }
         ensures lent { SameLoans memory.old memory.new }
     {

@@ -21,7 +21,7 @@ pub struct Step {
 }
 
 // Lent memory: 2N soft numbers, 64 pending steps and N bits, or more of each.
-// Kept beside an open span's parts: this is the caller's, of whatever sizes.
+// Kept beside `OpenSpan`: this may be of any size, there the sizes were seen.
 #[derive(Drop)]
 pub struct Memory<'a, S> {
     pub soft: &'a mut [S],

@@ -21,7 +21,7 @@ pub(crate) struct Spot {
 
 impl Spot {
     // The span of the step on top of `height` pending ones, if it lies within the code.
-    // Kept field by field: a span has what its step has, and what was seen of it.
+    // Kept field by field: it is checked against the map, so no From.
     pub(crate) fn of<M: Map>(map: &M, step: Step, height: usize) -> Option<Self>
         ensures some { IfSome result (λ s. (s.n ≡ M.Map.exponent map.now) × (s.start ≡ step.start) × (s.e ≡ step.e) × (s.below ≡ height - 1)) }
         ensures none { result ≡ None → step.e ≤ M.Map.exponent map.now → step.start + 2 ^ step.e ≤ 2 ^ M.Map.exponent map.now → height ≤ 64 → ⊥ }
@@ -78,26 +78,29 @@ impl Spot {
         }
     }
 
+    // The first step of its half that begins at `start`.
+    fn first_at(self, start: usize) -> Step
+        ensures { result ≡ record { next = Next.First; start = start; e = self.e - 1 } }
+    {
+        Step {
+            next: Next::First,
+            start,
+            e: self.e.saturating_sub(1),
+        }
+    }
+
     // The first step of its left half.
     pub(crate) fn left(self) -> Step
         ensures { result ≡ record { next = Next.First; start = self.start; e = self.e - 1 } }
     {
-        Step {
-            next: Next::First,
-            start: self.start,
-            e: self.e.saturating_sub(1),
-        }
+        self.first_at(self.start)
     }
 
     // The first step of its right half.
     pub(crate) fn right(self) -> Step
         ensures { result ≡ record { next = Next.First; start = self.start + 2 ^ (self.e - 1); e = self.e - 1 } }
     {
-        Step {
-            next: Next::First,
-            start: self.start + self.half(),
-            e: self.e.saturating_sub(1),
-        }
+        self.first_at(self.start + self.half())
     }
 }
 

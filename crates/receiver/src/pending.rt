@@ -6,7 +6,8 @@ use crate::memory::Step;
 use crate::stack::Stack;
 
 // The step that comes next.
-// Kept with the height beside it, and what stays as a clause: only the height tells how much of the lent memory counts.
+// Kept as `&mut`: the stack that it pops from is over memory lent to be written, and that it stays is a clause.
+// Kept with the height beside it: only the height tells how much of the lent memory counts.
 pub(crate) fn top_step(pending: &mut [Step], height: usize) -> Option<Step>
     ensures answer { result ≡ top_of height pending.old }
     ensures pending { pending.new ≡ pending.old }

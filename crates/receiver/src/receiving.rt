@@ -6,7 +6,7 @@ ghost use Rattle.receiver.specs.Admissions.{admitted, replied, in_force};
 ghost use Rattle.receiver.specs.Calls.{Call};
 ghost use Rattle.receiver.specs.Histories.{Led, Anew, plain, went_to, taken_as};
 ghost use Rattle.receiver.specs.Model.{caps_fault, full_length, short_length, message_in};
-ghost use Rattle.receiver.specs.Standings.{memory_fits, take_asked, TakesInHand, Advances, GoesOn, GoesOnAnyway, StaysAsItWas};
+ghost use Rattle.receiver.specs.Standings.{memory_fits, take_asked, TakesInHand, AdvancesIn, GoesOn, GoesOnAnyway, StaysAsItWas};
 ghost use Rattle.receiver.specs.Words.{steps_kept, answer_of};
 
 use crate::answers::Advance;
@@ -103,7 +103,7 @@ impl<M: Map + Copy, S: Soft + Copy> Receiver<M, S> {
         memory: &mut Memory<S>,
         allowance: u16,
     ) -> Result<Advance, ReceiverFault>
-        ensures goes { Advances S.Soft.kind M.Map.exponent M.Map.marks allowance self.old memory.old self.new memory.new (answer_of result) }
+        ensures goes { AdvancesIn S.Soft.kind M.Map.exponent M.Map.marks allowance self.old memory.old self.new memory.new (answer_of result) }
         ensures rest { (self.new.map ≡ self.old.map) × (self.new.caps ≡ self.old.caps) }
         ensures lent { SameLoans memory.old memory.new }
         ensures law { GoesOn S.Soft.kind M.Map.exponent M.Map.marks (Call.advance (memory_fits (M.Map.exponent self.old.map) memory.old) allowance) (went_to (answer_of result)) self.old memory.old self.new memory.new }

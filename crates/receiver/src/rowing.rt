@@ -15,7 +15,7 @@ use code::kinds::SpanKind;
 use soft::soft::Soft;
 
 // The row of a right half, after that of its span, which begins at `base`, with the bits of the left half, which begin at `start`.
-// Kept as `&mut`, with offsets beside it: the bits are only read, but of a part that a struct lends as `&` the check keeps no record that it stayed as it was.
+// Kept as `&mut`, with offsets: after a struct lends a slice that it holds as `&`, the check does not know that the slice is unchanged.
 fn right_row<S: Soft + Copy>(
     soft: &mut [S],
     base: usize,
@@ -54,7 +54,7 @@ impl<'a, S: Soft + Copy> OpenSpan<'a, S> {
     }
 
     // The row of its left half, after its own. A single position has no half.
-    // Kept beside the XOR of halves: each lends another part to another rule.
+    // Kept beside `xor_halves`: one writes values, the other bits, by functions of other types.
     pub(crate) fn check_halves(&mut self)
         ensures soft { self.old.spot.e ≢ 0 → self.new.soft.now ≡ with_left S.Soft.kind (base self.old.spot.n self.old.spot.e) (2 ^ (self.old.spot.e - 1)) self.old.soft.now }
         ensures rest { (self.new.spot ≡ self.old.spot) × (self.new.pending.now ≡ self.old.pending.now) × (self.new.bits.now ≡ self.old.bits.now) }
@@ -84,7 +84,7 @@ impl<'a, S: Soft + Copy> OpenSpan<'a, S> {
     }
 
     // Its bits from those of its halves.
-    // Kept beside the check of halves: each lends another part to another rule.
+    // Kept beside `check_halves`: one writes bits, the other values, by functions of other types.
     pub(crate) fn xor_halves(&mut self)
         ensures bits { self.old.spot.e ≢ 0 → self.new.bits.now ≡ with_word (2 ^ (self.old.spot.e - 1)) self.old.bits.now self.old.spot.start }
         ensures beyond { drop (2 ^ self.old.spot.n) self.new.bits.now ≡ drop (2 ^ self.old.spot.n) self.old.bits.now }

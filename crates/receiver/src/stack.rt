@@ -25,7 +25,7 @@ impl<'a, E: Copy> Stack<'a, E> {
         ensures len { self.new.len ≡ (if is_ok result then self.old.len + 1 else self.old.len) }
         ensures same { self.new.slots.ghost_name ≡ self.old.slots.ghost_name }
     {
-        // Kept as an index: of `get_mut` on a part that is lent to a struct the check keeps no record of what was written.
+        // Kept as an index: after `get_mut` on a slice that a struct holds, the check does not know what was written.
         let len = self.len;
         if len >= self.slots.len() {
             return Err(x);
@@ -44,7 +44,7 @@ impl<'a, E: Copy> Stack<'a, E> {
     {
         let below = self.len.checked_sub(1)?;
         self.len = below;
-        // Kept as an index: of `get` on a part that is lent to a struct the check keeps no record that all stayed as it was.
+        // Kept as an index: after `get` on a slice that a struct holds, the check does not know that it is unchanged.
         if below >= self.slots.len() {
             return None;
         }

@@ -39,7 +39,9 @@ fn first_step<M: Map, S: Soft + Copy>(map: &M, caps: Caps, span: &mut OpenSpan<S
 }
 
 // Makes the step that comes next. What the pending steps say is trusted only as far as it stays within the memory.
-// Kept as heights, a match and parts side by side: the height is what leads from step to step, which step comes is plain data in lent memory, and of a lent struct within a struct the check makes no proof.
+// Kept as a height: it is what leads from one step to the next.
+// Kept as a match, and no closure: which step comes is plain data in lent memory.
+// Kept with the parts side by side: of a lent struct within a struct the check makes no proof.
 pub(crate) fn make_step<M: Map, S: Soft + Copy>(
     map: &M,
     caps: Caps,
@@ -65,7 +67,6 @@ pub(crate) fn make_step<M: Map, S: Soft + Copy>(
         pending: memory.pending,
         bits: memory.bits,
     };
-    // A match, and no closure: what comes next is plain data in lent memory.
     match step.next {
         Next::First => first_step(map, caps, &mut span),
         Next::Second => {

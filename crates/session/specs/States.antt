@@ -71,10 +71,11 @@ Placed session at (advance allowance) = Unit {0}
 Placed session at taking = Unit {0}
 Placed session at dropping = Unit {0}
 
--- how a session begins, as it was read
+-- a session that was opened, as how it begins
 abbrev pub opened_as : Opened → Opening
 opened_as o = record { number = o.header.number; make = o.header.make; commands = o.commands.now }
 
+-- how a session begins, or why it was refused, as it was read
 abbrev pub opening_of : Result Opened SessionFault → Result Opening SessionFault
 opening_of (Ok o) = Ok (opened_as o)
 opening_of (Err f) = Err f

@@ -2,7 +2,7 @@
 ghost use Rattle.std.specs.Prelude.{◌≡◌, length};
 
 // What the line of a command that was done adds: nothing, numbers, a word, or the count of steps with a message and a word.
-// Kept as numbers: they are what the line prints.
+// Kept as numbers and bits: they are what the line prints. The bits are parts of the buffers that were lent for them.
 #[derive(Clone, Copy)]
 pub(crate) enum Answer<'b> {
     Nothing,

@@ -40,8 +40,7 @@ impl From<SessionFault> for Report {
             SessionFault::Header => (15, 0),
             SessionFault::Letter(at) => (15, at),
             SessionFault::Cut(at) => (16, at),
-            SessionFault::NoMap(at) => (17, at),
-            SessionFault::NoOrder(at) => (17, at),
+            SessionFault::NoMap(at) | SessionFault::NoOrder(at) => (17, at),
             SessionFault::Slot(at) => (18, at),
         };
         Report {
@@ -65,6 +64,6 @@ impl From<MapFault> for SessionFault {
     ghost from_gives = { λ fault r. r ≡ Receiver (Map fault) };
 
     fn from(refusal: MapFault) -> SessionFault {
-        SessionFault::Receiver(ReceiverFault::Map(refusal))
+        SessionFault::from(ReceiverFault::from(refusal))
     }
 }

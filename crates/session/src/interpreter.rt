@@ -97,8 +97,34 @@ fn push_lines<'a, S: Soft + Copy>(
     Ok(())
 }
 
-// The lines of a session that begins well, in its kind of soft number, with work memory for the largest code.
-// Kept as arrays, made in each arm: the memory is fixed, and a table of 2048 values of a type parameter is not known to have fewer than 2^63 bytes.
+// Does the commands in this kind of soft number, with work memory for the largest code.
+fn push_in<'a, S: Soft + Copy>(
+    text: &mut String,
+    make: Make,
+    sources: Sources<'a>,
+    commands: &'a [u8],
+    soft: &mut [S],
+) -> Result<(), AllocError>
+    requires left { Left sources.session.now commands.now }
+    requires room { length soft.old ≡ 2048 }
+    ensures { OnOk result (string_bytes text.new ≡ string_bytes text.old ++ lines_from S.Soft.kind (length commands.now) make sources.entry.shelf.now (length sources.entry.session.now) 0 commands.now nothing) }
+{
+    // Kept as a step that is never made: an array has a value at each place.
+    let idle = Step {
+        next: Next::First,
+        start: 0,
+        e: 0,
+    };
+    let mut memory = Memory {
+        soft,
+        pending: &mut [idle; 64],
+        bits: &mut [0; 1024],
+    };
+    push_lines(text, make, sources, commands, &mut memory)
+}
+
+// The lines of a session that begins well, in its kind of soft number.
+// Kept as a table in each arm: a table of 2048 values of a type parameter is not known to have fewer than 2^63 bytes.
 fn push_session<'a>(
     text: &mut String,
     sources: Sources<'a>,
@@ -109,34 +135,9 @@ fn push_session<'a>(
 {
     let Opened { header, commands } = opened;
     let make = header.make;
-    // Kept as a step that is never made: an array has a value at each place.
-    let idle = Step {
-        next: Next::First,
-        start: 0,
-        e: 0,
-    };
-    let pending = &mut [idle; 64];
-    let bits = &mut [0u8; 1024];
-    // Each arm makes its own soft numbers: of an array of a type parameter it is not proved that its size fits.
     match header.number {
-        Number::Whole => {
-            let soft = &mut [Whole::fill(); 2048];
-            let mut memory = Memory {
-                soft,
-                pending,
-                bits,
-            };
-            push_lines(text, make, sources, commands, &mut memory)
-        }
-        Number::Erasure => {
-            let soft = &mut [Erasure::fill(); 2048];
-            let mut memory = Memory {
-                soft,
-                pending,
-                bits,
-            };
-            push_lines(text, make, sources, commands, &mut memory)
-        }
+        Number::Whole => push_in(text, make, sources, commands, &mut [Whole::fill(); 2048]),
+        Number::Erasure => push_in(text, make, sources, commands, &mut [Erasure::fill(); 2048]),
     }
 }
 

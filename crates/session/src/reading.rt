@@ -27,6 +27,7 @@ fn split<'a>(at: usize, count: usize, bytes: &'a [u8]) -> Result<(&'a [u8], &'a 
 }
 
 // The command with this letter, which stands at offset `at`; `sizes` are those of the map in force, if there is one.
+// Kept with the answer in each arm: with a pair from the arms and one answer after the match, the clauses `read` and `left` did not prove.
 #[tactic(auto, unfolding(crate::specs::Commands::read_command))]
 pub(crate) fn read_command<'a>(
     make: Make,

@@ -1,7 +1,7 @@
 // What a session has in force, and what a command does to it.
 ghost use Rattle.std.specs.Prelude.{◌≡◌, length, None as NoFault};
 ghost use Rattle.receiver.specs.Lent.{SameLoans};
-ghost use Rattle.receiver.specs.declared.memory.Memory.{Memory as Lent};
+ghost use Rattle.receiver.specs.declared.memory.Memory.{Memory as WorkMemory};
 ghost use Rattle.session.specs.Chosen.{exponent_of, marks_of};
 ghost use Rattle.session.specs.Commands.{request_of};
 ghost use Rattle.session.specs.Sessions.{InForce, nothing, sizes_in, choose, do_order, do_slot, do_ranked, do_listed, do_encode, do_caps, do_word, do_short_word, do_advance, do_take, do_drop, perform};
@@ -29,7 +29,7 @@ pub(crate) struct State<'a, S> {
 
 impl<'a, S: Soft + Copy> State<'a, S> {
     pub(crate) fn new() -> Self
-        ensures { (memory : Lent S) → Room memory → Stands S.Soft.kind nothing result memory }
+        ensures { (memory : WorkMemory S) → Room memory → Stands S.Soft.kind nothing result memory }
     {
         State {
             order: None,
@@ -39,7 +39,7 @@ impl<'a, S: Soft + Copy> State<'a, S> {
 
     // How many bytes `E` and `W` take, if there is a map.
     pub(crate) fn sizes(&self) -> Option<Sizes>
-        ensures { (s : InForce S) (memory : Lent S) → Stands S.Soft.kind s self.now memory → result ≡ sizes_in s.receiver }
+        ensures { (s : InForce S) (memory : WorkMemory S) → Stands S.Soft.kind s self.now memory → result ≡ sizes_in s.receiver }
     {
         let map = self.receiver.as_ref()?.map();
         Some(Sizes {
@@ -97,6 +97,7 @@ impl<'a, S: Soft + Copy> State<'a, S> {
     }
 
     // `B`
+    // Kept with `as_mut` and `ok_or` in each command: of a method that lends the receiver, as that chain or as a match, it did not prove what the state ends as.
     // Kept beside the other commands: each makes its own call of the receiver, and the call's contract is its own.
     fn put_caps(
         &mut self,

@@ -99,17 +99,10 @@ impl fmt::Display for Bits<'_> {
 
     fn fmt<W: fmt::Write>(&self, f: &mut fmt::Formatter<W>) -> fmt::Result {
         for bit in self.0 {
-            f.write_char(bit_char(*bit))?;
+            f.write_str(if *bit == 0 { "0" } else { "1" })?;
         }
         Ok(())
     }
-}
-
-// Kept as a byte: the bits are those of the buffers.
-fn bit_char(bit: u8) -> char
-    ensures { result ≡ (if nat_eq bit 0 then 48 else 49) }
-{
-    if bit == 0 { '0' } else { '1' }
 }
 
 // The bits of a message, or `-` if there are none.
