@@ -51,6 +51,7 @@ impl Spot {
     }
 
     // How many positions a half has.
+    // Kept with a condition: a spot may be a single position, and a type for the others would be built behind a test at each use.
     pub(crate) fn half(self) -> usize
         ensures value { result ≡ 2 ^ (self.e - 1) }
         ensures twice { self.e ≢ 0 → 2 * result ≡ 2 ^ self.e }
