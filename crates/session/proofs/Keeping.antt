@@ -30,6 +30,7 @@ told_ok more (receiver.went steps ends) f ok e = cc
 told_ok more (receiver.took steps message bits) f ok e = cc
 
 -- where a command is refused, all stays in force; refused or not, the map stays, or the order
+-- Kept, `refused` in both records: each says all that stays.
 pub record MapsStay {S : Type 0} (s : InForce S) (d : Done S) : Type 0 where
   pub refused : (f : SessionFault) → d.answer ≡ Err f → d.after ≡ s
   pub map : map_in d.after ≡ map_in s

@@ -10,6 +10,7 @@ use Rattle.session.specs.Faults.{report_of}
 use Rattle.session.specs.Text.{shown_letter}
 
 -- an ASCII character is one byte
+-- Kept: `using(..)` did not take the library's lemma by its own name.
 pub ascii_char : (c : ℕ) → c < 128 → encode_utf8 c ≡ c ∷ []
 ascii_char c small = one c small
 

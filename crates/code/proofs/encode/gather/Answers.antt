@@ -6,6 +6,7 @@ use Rattle.code.proofs.Laying.{count_informed, count_frozen, informed_here, info
 use Rattle.code.proofs.encode.gather.Goals as goal
 use Rattle.code.proofs.encode.gather.Goals.{then-is_informed, else-is_informed}
 
+-- Kept, `within` here and in `lay`: a lemma would take the same facts as arguments and be as long.
 pub bounds-message-next : goal.bounds-message-next
 bounds-message-next g c =
     let marks = g.M.Map.marks c.args.map.now in

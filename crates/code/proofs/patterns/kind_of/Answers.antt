@@ -10,6 +10,7 @@ returns-then-is_constant-2 c =
     sym (fitted c.args.row.now false true _ _
     (sym c.is_constant.ensures ∙ c.if-is_constant.false) (sym c.is_constant-2.ensures ∙ c.if-is_constant-2.true) refl refl)
 
+-- Kept, here and below: each answer names what its branch found, and the branches have records of different types.
 pub returns-then-is_repetition : goal.returns-then-is_repetition
 returns-then-is_repetition c =
     sym (fitted c.args.row.now false false true _

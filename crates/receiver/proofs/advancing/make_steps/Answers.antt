@@ -3,6 +3,7 @@ use Rattle.receiver.specs.Capping.{caps_of}
 use Rattle.receiver.proofs.Walks.{walked_start, walked_step, walked_out}
 use Rattle.receiver.proofs.advancing.make_steps.Goals as goal
 
+-- Kept: an invariant of several parts is answered as a whole, also the parts that the check finds.
 pub loop-made-init : goal.loop-made-init
 loop-made-init g c =
     record {
@@ -12,6 +13,7 @@ loop-made-init g c =
       lent = search rules;
     }
 
+-- Kept: an invariant of several parts is answered as a whole, also the parts that the check finds.
 pub loop-made-preserved : goal.loop-made-preserved
 loop-made-preserved g c =
     record {

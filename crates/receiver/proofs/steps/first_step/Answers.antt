@@ -9,6 +9,7 @@ use Rattle.receiver.proofs.Made.{coherent_as, kind_known, kind_refused, settle_f
 use Rattle.receiver.proofs.SpansAsked.{means_known, path_split}
 use Rattle.receiver.proofs.steps.first_step.Goals as goal
 
+-- Kept, `means` here and below: the three branches have records of different types.
 pub returns-in_default-clause-follows : goal.returns-in_default-clause-follows
 returns-in_default-clause-follows g c = λ root path is these top was.
     let n = g.M.Map.exponent c.args.map.now in

@@ -4,6 +4,7 @@ use Rattle.session.specs.Sessions.{nothing}
 use Rattle.session.proofs.Turns.{going_last, going_done, between_more, lent_on}
 use Rattle.session.proofs.interpreter.push_lines.Goals as goal
 
+-- Kept: an invariant of several parts is answered as a whole, also the parts that the check finds.
 pub loop-rest-init : goal.loop-rest-init
 loop-rest-init g c = record {
   between = record {

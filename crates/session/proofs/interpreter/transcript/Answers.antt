@@ -16,8 +16,10 @@ returns c = record {
   runs = sessions_both;
 }
 
+-- Kept: the four clauses are answered as a whole, and each way out gives the same three theorems.
 pub returns-in_err-push_session-in-Ok : goal.returns-in_err-push_session-in-Ok
 returns-in_err-push_session-in-Ok c = record { text = search rules; refused = refused_leaves_both; chosen = changes_both; runs = sessions_both }
 
+-- Kept: the four clauses are answered as a whole, and each way out gives the same three theorems.
 pub returns-in_err-write-in-Err : goal.returns-in_err-write-in-Err
 returns-in_err-write-in-Err c = record { text = search rules; refused = refused_leaves_both; chosen = changes_both; runs = sessions_both }

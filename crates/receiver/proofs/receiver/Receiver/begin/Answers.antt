@@ -8,6 +8,7 @@ use Rattle.std.proofs.lemmas.Float.{T_from_true}
 use Rattle.receiver.proofs.Rooms.{room_answered}
 use Rattle.receiver.proofs.receiver.Receiver.begin.Goals as goal
 
+-- Kept: the clause is a record, and is answered as a whole, also the parts that the check finds.
 pub returns-clause-taken : goal.returns-clause-taken
 returns-clause-taken g c =
     let kind = g.S.Soft.kind in

@@ -8,6 +8,7 @@ use Rattle.receiver.specs.Model.{message_in}
 use Rattle.receiver.specs.Standings.{take_asked}
 use Rattle.receiver.proofs.receiver.Receiver.hand_over.Goals as goal
 
+-- Kept: the clause is a record, and is answered as a whole, also the parts that the check finds.
 pub returns-clause-handed : goal.returns-clause-handed
 returns-clause-handed g c =
     let map = c.args.self.now.map in
