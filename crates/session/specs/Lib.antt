@@ -8,3 +8,4 @@ pub mod Answers
 pub mod Sessions
 pub mod Runs
 pub mod States
+pub mod Opened

@@ -1,5 +1,5 @@
 -- What the state of a session means: cited by `State`. Assumes nothing.
-use Rattle.std.specs.Prelude.{◌≡◌, ℕ, ◌+◌, ◌-◌, ◌≤◌, List, length, drop, Some, None, Ok, Err, Option, Result, option_map}
+use Rattle.std.specs.Prelude.{◌≡◌, ℕ, ◌+◌, ◌-◌, ◌≤◌, List, length, drop, Some, None, Option, Result, option_map}
 use Rattle.code.specs.Spans.{part}
 use Rattle.soft.specs.Kind.{Kind}
 use Rattle.receiver.specs.declared.memory.Memory.{Memory}
@@ -9,13 +9,12 @@ use Rattle.receiver.specs.Model.{Model}
 use Rattle.code.specs.declared.order.Order.{Order}
 use Rattle.session.specs.declared.chosen.Chosen.{Chosen}
 use Rattle.session.specs.declared.faults.SessionFault.{SessionFault}
-use Rattle.session.specs.declared.interpreter.Opened.{Opened}
 use Rattle.session.specs.declared.state.State.{State}
 use Rattle.session.specs.declared.answers.Answer.{Answer}
 use Rattle.session.specs.Answers.{answer_of}
 use Rattle.session.specs.Chosen.{exponent_of, marks_of}
 use Rattle.session.specs.Commands.{Request, slot, order, ranked, listed, encode, caps, word, short_word, advance, taking, dropping}
-use Rattle.session.specs.Sessions.{InForce, Done, Opening}
+use Rattle.session.specs.Sessions.{InForce, Done}
 
 -- the work memory is large enough for every code
 pub record Room {S : Type 0} (memory : Memory S) : Type 0 where
@@ -70,15 +69,6 @@ Placed session at (short_word bytes) = Unit {0}
 Placed session at (advance allowance) = Unit {0}
 Placed session at taking = Unit {0}
 Placed session at dropping = Unit {0}
-
--- a session that was opened, as how it begins
-abbrev pub opened_as : Opened → Opening
-opened_as o = record { number = o.header.number; make = o.header.make; commands = o.commands.now }
-
--- how a session begins, or why it was refused, as it was read
-abbrev pub opening_of : Result Opened SessionFault → Result Opening SessionFault
-opening_of (Ok o) = Ok (opened_as o)
-opening_of (Err f) = Err f
 
 -- the part of a session that is left, with its offset
 abbrev pub Left : List ℕ → List ℕ → Type 0

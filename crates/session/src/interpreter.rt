@@ -5,11 +5,13 @@ ghost use Rattle.soft.specs.Whole.{whole};
 ghost use Rattle.soft.specs.Erasure.{erasure};
 ghost use Rattle.session.specs.Sessions.{nothing, lines_from, lines_of, opening, answers, RefusedLeavesAll, ChangesOnlyByChoice};
 ghost use Rattle.session.specs.Runs.{SessionsLawful};
-ghost use Rattle.session.specs.States.{Room, opened_as, opening_of, Left};
+ghost use Rattle.session.specs.Opened.{opened_as, opening_of};
+ghost use Rattle.session.specs.States.{Room};
 
 use crate::answers::Buffers;
-use crate::commands::{Header, Make, Number};
+use crate::commands::{Header, Number};
 use crate::faults::SessionFault;
+use crate::opened::Opened;
 use crate::reading::read_command;
 use crate::shelf::Sources;
 use crate::state::State;
@@ -24,16 +26,10 @@ use std::fmt::Write;
 // The most bytes that a session or a shelf may have.
 const LONGEST: usize = 65536;
 
-// How a session begins, and its commands.
-#[derive(Clone, Copy)]
-pub(crate) struct Opened<'a> {
-    pub(crate) header: Header,
-    pub(crate) commands: &'a [u8],
-}
-
 // The questions about the session as a whole.
 fn open<'a>(sources: Sources<'a>) -> Result<Opened<'a>, SessionFault>
-    ensures { opening_of result ≡ opening sources.entry.session.now sources.entry.shelf.now }
+    ensures begins { opening_of result ≡ opening sources.entry.session.now sources.entry.shelf.now }
+    ensures same { IfOk result (λ opened. (opened.sources.session.now ≡ sources.entry.session.now) × (opened.sources.shelf.now ≡ sources.entry.shelf.now)) }
 {
     if sources.session.len() > LONGEST || sources.shelf.len() > LONGEST {
         return Err(SessionFault::TooLong);
@@ -42,28 +38,31 @@ fn open<'a>(sources: Sources<'a>) -> Result<Opened<'a>, SessionFault>
         return Err(SessionFault::Header);
     };
     let header = Header::try_from([*number, *make])?;
-    Ok(Opened { header, commands })
+    Ok(Opened {
+        sources,
+        header,
+        commands,
+    })
 }
 
 // Does the commands one after the other, in this work memory, and appends their lines.
 #[tactic(auto, using(crate::proofs::Turns::operands_at, crate::proofs::Turns::shorter, crate::proofs::Lines::answered_small))]
 fn push_lines<'a, S: Soft + Copy>(
     text: &mut String,
-    make: Make,
-    sources: Sources<'a>,
-    commands: &'a [u8],
+    opened: Opened<'a>,
     memory: &mut Memory<S>,
 ) -> Result<(), AllocError>
-    requires left { Left sources.session.now commands.now }
-    requires room { Room memory.old }
-    ensures lines { OnOk result (string_bytes text.new ≡ string_bytes text.old ++ lines_from S.Soft.kind (length commands.now) make sources.entry.shelf.now (length sources.entry.session.now) 0 commands.now nothing) }
+    requires { Room memory.old }
+    ensures lines { OnOk result (string_bytes text.new ≡ string_bytes text.old ++ lines_from S.Soft.kind (length opened.entry.commands.now) opened.entry.header.make opened.entry.sources.shelf.now (length opened.entry.sources.session.now) 0 opened.entry.commands.now nothing) }
     ensures lent { SameLoans memory.old memory.new }
 {
+    let sources = opened.sources;
+    let make = opened.header.make;
     let mut state: State<S> = State::new();
     let mut message = [0u8; 1024];
     let mut word = [0u8; 1024];
     let mut number = 0;
-    let mut rest = commands;
+    let mut rest = opened.commands;
     // Kept as a `while let` with a count beside it: where the next command begins is known only once this one was read.
     while let [letter, operands @ ..] = rest {
         let at = sources.session.len() - rest.len();
@@ -100,14 +99,11 @@ fn push_lines<'a, S: Soft + Copy>(
 // Does the commands in this kind of soft number, with work memory for the largest code.
 fn push_in<'a, S: Soft + Copy>(
     text: &mut String,
-    make: Make,
-    sources: Sources<'a>,
-    commands: &'a [u8],
+    opened: Opened<'a>,
     soft: &mut [S],
 ) -> Result<(), AllocError>
-    requires left { Left sources.session.now commands.now }
-    requires room { length soft.old ≡ 2048 }
-    ensures { OnOk result (string_bytes text.new ≡ string_bytes text.old ++ lines_from S.Soft.kind (length commands.now) make sources.entry.shelf.now (length sources.entry.session.now) 0 commands.now nothing) }
+    requires { length soft.old ≡ 2048 }
+    ensures { OnOk result (string_bytes text.new ≡ string_bytes text.old ++ lines_from S.Soft.kind (length opened.entry.commands.now) opened.entry.header.make opened.entry.sources.shelf.now (length opened.entry.sources.session.now) 0 opened.entry.commands.now nothing) }
 {
     // Kept as a step that is never made: an array has a value at each place.
     let idle = Step {
@@ -120,24 +116,17 @@ fn push_in<'a, S: Soft + Copy>(
         pending: &mut [idle; 64],
         bits: &mut [0; 1024],
     };
-    push_lines(text, make, sources, commands, &mut memory)
+    push_lines(text, opened, &mut memory)
 }
 
 // The lines of a session that begins well, in its kind of soft number.
 // Kept as a table in each arm: a table of 2048 values of a type parameter is not known to have fewer than 2^63 bytes.
-fn push_session<'a>(
-    text: &mut String,
-    sources: Sources<'a>,
-    opened: Opened<'a>,
-) -> Result<(), AllocError>
-    requires { Left sources.session.now opened.commands.now }
-    ensures { OnOk result (string_bytes text.new ≡ string_bytes text.old ++ lines_of (length sources.entry.session.now) sources.entry.shelf.now (opened_as opened.entry)) }
+fn push_session<'a>(text: &mut String, opened: Opened<'a>) -> Result<(), AllocError>
+    ensures { OnOk result (string_bytes text.new ≡ string_bytes text.old ++ lines_of (length opened.entry.sources.session.now) opened.entry.sources.shelf.now (opened_as opened.entry)) }
 {
-    let Opened { header, commands } = opened;
-    let make = header.make;
-    match header.number {
-        Number::Whole => push_in(text, make, sources, commands, &mut [Whole::fill(); 2048]),
-        Number::Erasure => push_in(text, make, sources, commands, &mut [Erasure::fill(); 2048]),
+    match opened.header.number {
+        Number::Whole => push_in(text, opened, &mut [Whole::fill(); 2048]),
+        Number::Erasure => push_in(text, opened, &mut [Erasure::fill(); 2048]),
     }
 }
 
@@ -151,7 +140,7 @@ pub fn transcript(heap: Global, session: &[u8], shelf: &[u8]) -> Result<String, 
     let sources = Sources { session, shelf };
     let mut text = String::new(heap);
     match open(sources) {
-        Ok(opened) => push_session(&mut text, sources, opened)?,
+        Ok(opened) => push_session(&mut text, opened)?,
         Err(fault) => {
             let line = Line {
                 number: 0,

@@ -6,6 +6,7 @@ mod chosen;
 pub mod commands;
 pub mod faults;
 mod interpreter;
+mod opened;
 mod reading;
 mod shelf;
 mod state;

@@ -9,8 +9,8 @@ pub loop-rest-init : goal.loop-rest-init
 loop-rest-init g c = record {
   between = record {
     force = nothing;
-    stands = c.new-state.ensures _ c.requires.room;
-    going = record { most = length c.args.commands.now; enough = le_refl _; lines = refl; left = c.requires.left; few = omega (arith, c.requires.left.0) };
+    stands = c.new-state.ensures _ c.requires;
+    going = record { most = length c.args.opened.commands.now; enough = le_refl _; lines = refl; left = c.args.opened.left; few = omega (arith, c.args.opened.left.0) };
   };
   lent = record { soft = refl; pending = refl; bits = refl; soft_long = refl; pending_long = refl; bits_long = refl };
 }
