@@ -1,5 +1,5 @@
 // The lines of a session.
-ghost use Rattle.std.specs.Prelude.{◌≡◌, ◌<◌, [], ◌∷◌, if◌then◌else◌, nat_eq, Some};
+ghost use Rattle.std.specs.Prelude.{◌≡◌, ◌<◌, [], ◌∷◌, Some};
 ghost use Rattle.session.specs.Answers.{answer_of, shown_in};
 ghost use Rattle.session.specs.Sessions.{answer_line};
 ghost use Rattle.session.specs.Text.{bits_text, message_text, shown_letter};
