@@ -99,6 +99,7 @@ impl fmt::Display for Bits<'_> {
 
     fn fmt<W: fmt::Write>(&self, f: &mut fmt::Formatter<W>) -> fmt::Result {
         for bit in self.0 {
+            // Kept as a byte: the bits are those of the buffers.
             f.write_str(if *bit == 0 { "0" } else { "1" })?;
         }
         Ok(())
