@@ -54,8 +54,8 @@ impl<'a, S: Soft + Copy> OpenSpan<'a, S> {
     }
 
     // The row of its left half, after its own. A single position has no half.
-    // Kept with a test, here and below: a type for spans that have halves proves, but the check covers no Option of one, so it would be built behind a test at each use.
     // Kept beside `xor_halves`: one writes values, the other bits, by functions of other types.
+    // Kept with a test, here and below: a type for spans that have halves proves, but the check covers no Option of one, so it would be built behind a test at each use.
     pub(crate) fn check_halves(&mut self)
         ensures soft { self.old.spot.e ≢ 0 → self.new.soft.now ≡ with_left S.Soft.kind (base self.old.spot.n self.old.spot.e) (2 ^ (self.old.spot.e - 1)) self.old.soft.now }
         ensures rest { (self.new.spot ≡ self.old.spot) × (self.new.pending.now ≡ self.old.pending.now) × (self.new.bits.now ≡ self.old.bits.now) }

@@ -2,7 +2,7 @@
 ghost use Rattle.std.specs.Prelude.{◌≡◌, length};
 
 // What the line of a command that was done adds: nothing, numbers, a word, or the count of steps with a message and a word.
-// Kept as numbers and bits: they are what the line prints. The bits are parts of the buffers that were lent for them.
+// Kept as numbers: they are no offsets, the line prints them. Words and messages are slices of the memory that was lent for them.
 #[derive(Clone, Copy)]
 pub(crate) enum Answer<'b> {
     Nothing,

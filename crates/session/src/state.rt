@@ -97,8 +97,8 @@ impl<'a, S: Soft + Copy> State<'a, S> {
     }
 
     // `B`
-    // Kept with `as_mut` and `ok_or` in each command: of a method that lends the receiver, as that chain or as a match, it did not prove what the state ends as.
     // Kept beside the other commands: each makes its own call of the receiver, and the call's contract is its own.
+    // Kept with `as_mut` and `ok_or` in each command: of a method that lends the receiver, as that chain or as a match, it did not prove what the state ends as.
     fn put_caps(
         &mut self,
         at: usize,

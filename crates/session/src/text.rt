@@ -1,5 +1,5 @@
 // The lines of a session.
-ghost use Rattle.std.specs.Prelude.{◌≡◌, ◌<◌, [], ◌∷◌, if◌then◌else◌, nat_eq, Some};
+ghost use Rattle.std.specs.Prelude.{◌≡◌, ◌<◌, [], ◌∷◌, Some};
 ghost use Rattle.session.specs.Answers.{answer_of, shown_in};
 ghost use Rattle.session.specs.Sessions.{answer_line};
 ghost use Rattle.session.specs.Text.{bits_text, message_text, shown_letter};
@@ -100,6 +100,7 @@ impl fmt::Display for Bits<'_> {
     fn fmt<W: fmt::Write>(&self, f: &mut fmt::Formatter<W>) -> fmt::Result {
         // Kept as bytes: so a word and a message stand in their buffers.
         for bit in self.0 {
+            // Kept as a byte: the bits are those of the buffers.
             f.write_str(if *bit == 0 { "0" } else { "1" })?;
         }
         Ok(())
