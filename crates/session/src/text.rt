@@ -98,7 +98,6 @@ impl fmt::Display for Bits<'_> {
     ghost output = { λ bits. Some (bits_text bits.0.now) };
 
     fn fmt<W: fmt::Write>(&self, f: &mut fmt::Formatter<W>) -> fmt::Result {
-        // Kept as bytes: so a word and a message stand in their buffers.
         for bit in self.0 {
             // Kept as a byte: the bits are those of the buffers.
             f.write_str(if *bit == 0 { "0" } else { "1" })?;
