@@ -1,4 +1,4 @@
--- What layer 1 reports of each refusal: cited by `MapFault::report` and by every promise about a number, a layer or a place. Assumes nothing.
+-- What layer 1 reports of each refusal: cited by `From<MapFault>` for `Report` and by every promise about a number, a layer or a place. Assumes nothing.
 use Rattle.std.specs.Prelude.{ℕ, Some, None, Ok, Err, Option, Result}
 use Rattle.code.specs.declared.faults.MapFault.{MapFault}
 use Rattle.code.specs.declared.faults.MapFault.TheVariants.{Exponent, Length, Rank, Law, Count, Bit, Outside, Buffer}
