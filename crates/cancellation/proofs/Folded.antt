@@ -1,14 +1,29 @@
 -- A row halved in place. Assumes nothing.
-use Rattle.std.proofs.Common.{◌≡◌, ℕ, zero, suc, ◌+◌, ◌/◌, ◌^◌, ◌<◌, ◌≤◌, Bool, false, List, [], ◌∷◌, ◌++◌, length, get_or, take, drop, replicate, sym, refl, ap, ◌∙◌, ap₂, arith, pow_pos}
+use Rattle.std.proofs.Common.{◌≡◌, ℕ, zero, suc, ◌+◌, ◌-◌, ◌/◌, ◌^◌, ◌<◌, ◌≤◌, Bool, false, eqb, List, [], ◌∷◌, ◌++◌, length, get_or, take, drop, replicate, sym, refl, ap, ◌∙◌, ap₂, ⊎_elim, arith, pow_pos}
 use native.Mathlib.Nat.{two-pow-succ}
 use mir.Val.{bool_byte}
-use lib.ListN.{length-replicate}
-use Rattle.std.proofs.lemmas.List.{length-take, length-drop, length-append, get_or_append_left, get_or_default}
+use lib.ListN.{length-replicate, get_or-replicate}
+use Rattle.std.proofs.lemmas.List.{length-take, length-drop, length-append, get_or_append_left, get_or-append_right, get_or-take, get_or-drop, get_or_default, ext_get_or}
+use Rattle.std.proofs.lemmas.Bool.{cases_lt}
 use Rattle.soft.specs.Kind.{Kind}
 use Rattle.cancellation.specs.Rows.{bit, join_row}
 use Rattle.cancellation.specs.Rules.{last_left, repeated, folded}
 use Rattle.cancellation.proofs.Written.{byte_is}
-use Rattle.cancellation.proofs.Combined.{right_long, length-join_row}
+use Rattle.cancellation.proofs.Combined.{right_long, length-join_row, get_or-join_row}
+
+-- a row of two parts of which the first was written
+module _ {X : Type 0} (d : X) (h : ℕ) (old new made : List X) (long : length old ≡ h + h) (kept : length new ≡ length old) (made-long : length made ≡ h) where
+  half_written : ((k : ℕ) → k < h → get_or new k d ≡ get_or made k d) → ((k : ℕ) → h ≤ k → get_or new k d ≡ get_or old k d) → new ≡ made ++ drop h old
+  half_written front back =
+      ext_get_or d new (made ++ drop h old) (simp (length-append, length-drop) (omega arith))
+      (λ k below. ⊎_elim
+      (λ b. front k b ∙ sym (get_or_append_left made (drop h old) d k (omega arith)))
+      (λ b. let at : h + (k - h) ≡ k = omega arith in
+      back k b ∙ sym (get_or-append_right made (drop h old) h k d made-long b ∙ get_or-drop h old (k - h) d ∙ ap (λ n. get_or old n d) at))
+      (cases_lt k h))
+
+no_beta : (h k : ℕ) → k < h → eqb (get_or (replicate h 0) k 0) 1 ≡ false
+no_beta h k b = ap (λ β. eqb β 1) (get_or-replicate h k 0 0 b)
 
 module _ {S : Type 0} (kind : Kind S) where
   -- one halving of a row
@@ -20,6 +35,24 @@ module _ {S : Type 0} (kind : Kind S) where
       let l : length (take h values) ≡ h = simp length-take (omega arith) in
       let r : length (drop h values) ≡ h = simp length-drop (omega arith) in
       length-join_row kind (take h values) (drop h values) (replicate h 0) (l ∙ sym r) (l ∙ sym (length-replicate h 0)) ∙ l
+
+  folded_at : (h : ℕ) (old : List S) (k : ℕ) → length old ≡ h + h → k < h →
+      get_or (folded_once h old) k kind.fill ≡ kind.join (get_or old k kind.fill) (get_or old (h + k) kind.fill) false
+  folded_at h old k long b =
+      let l : length (take h old) ≡ h = simp length-take (omega arith) in
+      let r : length (drop h old) ≡ h = simp length-drop (omega arith) in
+      get_or-join_row kind (take h old) (drop h old) (replicate h 0) k (omega arith) (l ∙ sym r) (l ∙ sym (length-replicate h 0))
+      ∙ ap (kind.join _ _) (no_beta h k b)
+      ∙ ap₂ (λ x y. kind.join x y false) (get_or-take h old k kind.fill b) (get_or-drop h old k kind.fill)
+
+  -- the first of two parts was joined onto, and the second stays
+  -- Kept: a page of docs/ names it.
+  pub folded_once_lem : (h : ℕ) (old new : List S) → length old ≡ h + h → length new ≡ length old →
+      ((k : ℕ) → k < h → get_or new k kind.fill ≡ kind.join (get_or old k kind.fill) (get_or old (h + k) kind.fill) false) →
+      ((k : ℕ) → h ≤ k → get_or new k kind.fill ≡ get_or old k kind.fill) →
+      new ≡ folded_once h old ++ drop h old
+  folded_once_lem h old new long kept front back =
+      half_written kind.fill h old new (folded_once h old) long kept (folded_once-long h old long) (λ k b. front k b ∙ sym (folded_at h old k long b)) back
 
   -- a row joined onto the one before it
   pub joined_onto : (left right new : List S) → length left ≤ length right → length new ≡ length left →

@@ -7,13 +7,65 @@ use Rattle.std.proofs.lemmas.List.{take_rest, get_or-drop, get_or_default, lengt
 use Rattle.soft.specs.Kind.{Kind}
 use Rattle.cancellation.specs.Rules.{reversed, Turns, size_at}
 
+reversed_small : (e i : ℕ) → reversed e i < 2 ^ e
+reversed_small zero i = omega arith
+reversed_small (suc e) i =
+    let p = two-pow-succ e in
+    let s = reversed_small e (i / 2) in
+    ⊎_elim (λ z. let m : (i % 2) * 2 ^ e ≡ 0 * 2 ^ e = ap (λ k. k * 2 ^ e) z in omega arith)
+    (λ z. let m : (i % 2) * 2 ^ e ≡ 1 * 2 ^ e = ap (λ k. k * 2 ^ e) z in omega arith) (parts i)
+  where
+    parts : (i : ℕ) → (i % 2 ≡ 0) ⊎ (i % 2 ≡ 1)
+    parts i = ⊎_elim (λ lt. inl (omega arith)) (λ le. inr (omega arith)) (cases_lt (i % 2) 1)
+
 same_ltb : (a b c d : ℕ) → (a < b → c < d) → (c < d → a < b) → ltb a b ≡ ltb c d
 same_ltb a b c d to from =
     ⊎_elim (λ lt. lt-ltb a b lt ∙ sym (lt-ltb c d (to lt)))
     (λ ge. le-ltb a b ge ∙ sym (le-ltb c d (⊎_elim (λ lt. let h = from lt in omega arith) (λ le. le) (cases_lt c d))))
     (cases_lt a b)
 
+-- where the lowest bits are equal, the others decide
+pub reversed_same : (e i j : ℕ) → (e ≡ 0 → ⊥) → i % 2 ≡ j % 2 → ltb (reversed (e - 1) (i / 2)) (reversed (e - 1) (j / 2)) ≡ ltb (reversed e i) (reversed e j)
+reversed_same zero i j some same = absurd (some refl)
+reversed_same (suc e) i j some same =
+    let down : suc e - 1 ≡ e = omega arith in
+    let m : (i % 2) * 2 ^ e ≡ (j % 2) * 2 ^ e = ap (λ k. k * 2 ^ e) same in
+    ap (λ n. ltb (reversed n (i / 2)) (reversed n (j / 2))) down
+    ∙ same_ltb (reversed e (i / 2)) (reversed e (j / 2)) (reversed (suc e) i) (reversed (suc e) j) (λ h. omega arith) (λ h. omega arith)
+
+-- where they differ, they decide
+pub reversed_apart : (e i j : ℕ) → (e ≡ 0 → ⊥) → (i % 2 ≡ j % 2 → ⊥) → ltb (i % 2) (j % 2) ≡ ltb (reversed e i) (reversed e j)
+reversed_apart zero i j some differ = absurd (some refl)
+reversed_apart (suc e) i j some differ =
+    let si = reversed_small e (i / 2) in
+    let sj = reversed_small e (j / 2) in
+    ⊎_elim
+    (λ lt. let a : (i % 2) * 2 ^ e ≡ 0 * 2 ^ e = ap (λ k. k * 2 ^ e) (omega arith) in
+    let b : (j % 2) * 2 ^ e ≡ 1 * 2 ^ e = ap (λ k. k * 2 ^ e) (omega arith) in
+    lt-ltb _ _ lt ∙ sym (lt-ltb (reversed (suc e) i) (reversed (suc e) j) (omega arith)))
+    (λ ge. let a : (i % 2) * 2 ^ e ≡ 1 * 2 ^ e = ap (λ k. k * 2 ^ e) (omega arith) in
+    let b : (j % 2) * 2 ^ e ≡ 0 * 2 ^ e = ap (λ k. k * 2 ^ e) (omega arith) in
+    le-ltb _ _ ge ∙ sym (le-ltb (reversed (suc e) i) (reversed (suc e) j) (omega arith)))
+    (cases_lt (i % 2) (j % 2))
+
+-- a number is not below itself
+pub reversed_itself : (e i j : ℕ) → i ≡ j → false ≡ ltb (reversed e i) (reversed e j)
+reversed_itself e i j same = let r : reversed e i ≡ reversed e j = ap (reversed e) same in sym (le-ltb (reversed e i) (reversed e j) (omega arith))
+
+-- numbers that differ have a bit
+pub has_bit : (e i j : ℕ) → (i ≡ j → ⊥) → i < 2 ^ e → j < 2 ^ e → e ≡ 0 → ⊥
+has_bit zero i j differ hi hj is = differ (omega arith)
+has_bit (suc e) i j differ hi hj is = omega arith
+
+-- and without it they have one bit fewer
+pub half_small : (e i : ℕ) → (e ≡ 0 → ⊥) → i < 2 ^ e → i / 2 < 2 ^ (e - 1)
+half_small zero i some h = absurd (some refl)
+half_small (suc e) i some h =
+    let down : suc e - 1 ≡ e = omega arith in
+    rw down (omega (arith, two-pow-succ e))
+
 -- the library's reversal after the bits of a
+-- Kept: from here to `reversed_order` the lemmas state how the library's reversal orders numbers.
 reversed_onto : (k n a : ℕ) → reverse_bits_onto k n a ≡ a * 2 ^ k + reversed k n
 unfolding reverse_bits_onto
 reversed_onto zero n a = omega arith

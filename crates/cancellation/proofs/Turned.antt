@@ -51,3 +51,10 @@ parity-xor_row (x ∷ xs) (y ∷ ys) e =
 pub parity_append : (xs ys : List ℕ) → parity (xs ++ ys) ≡ bit_xor (parity xs) (parity ys)
 parity_append [] ys = refl
 parity_append (x ∷ xs) ys = ap (bit_xor x) (parity_append xs ys) ∙ sym (xor_assoc x (parity xs) (parity ys))
+
+-- the XOR of a row in which one bit is turned
+-- Kept: no other lemma states it.
+pub parity_turned : (p : ℕ) (xs : List ℕ) → p < length xs → parity (turned_at p xs) ≡ bit_xor (parity xs) 1
+parity_turned p [] h = let n : ⊥ = omega arith in absurd n
+parity_turned zero (x ∷ xs) h = xor_last x 1 (parity xs)
+parity_turned (suc p) (x ∷ xs) h = ap (bit_xor x) (parity_turned p xs (omega arith)) ∙ sym (xor_assoc x (parity xs) 1)

@@ -1,8 +1,7 @@
-use Rattle.std.proofs.Common.{◌≡◌, ℕ, ◌+◌, ◌-◌, ◌^◌, ◌<◌, cond, eqb, length, take, drop, ltb, sym, ap, ap₂, ◌∙◌, subst, arith, rules}
-use Rattle.std.specs.Int.{reverse_bits_onto}
+use Rattle.std.proofs.Common.{◌≡◌, ℕ, ◌+◌, ◌-◌, ◌^◌, ◌<◌, cond, eqb, length, take, drop, ltb, sym, ap, ap₂, ◌∙◌, subst, arith}
 use Rattle.std.proofs.lemmas.List.{take_rest, length-drop}
-use Rattle.cancellation.specs.Rules.{Turns, size_at}
-use Rattle.cancellation.proofs.Sought.{earlier, turns_first, turns_keeps, turns_moves, reversed_order, size_first, size_later}
+use Rattle.cancellation.specs.Rules.{reversed, Turns, size_at}
+use Rattle.cancellation.proofs.Sought.{earlier, turns_first, turns_keeps, turns_moves, size_first, size_later}
 use Rattle.cancellation.proofs.places.place_to_turn.Goals as goal
 use Rattle.cancellation.proofs.places.place_to_turn.Goals.{then-turns_before, else-turns_before}
 
@@ -20,14 +19,12 @@ loop-i-preserved g c =
     let i = c.loop-i.i + 1 in
     let size : c.size-size.result ≡ z i = c.size-size.ensures ∙ size_later kind values c.loop-i.i _ c.loop-i-test.true c.index-rest-i.is in
     let p = c.loop-i.place in
-    let fits : length values < 2 ^ 64 = search rules in
     let rest : length (take (length values - 1) (drop 1 values)) ≡ length values - 1 = ap length (take_rest values 1) ∙ length-drop 1 values in
     let within : i < length values = omega (arith, c.loop-i-test.true, rest) in
     let before : p < length values = omega (arith, c.loop-i.invariant.2, within) in
     let told : (e : ℕ) → length values ≡ 2 ^ e → c.turns_before.result ≡ earlier e z i p = λ e long.
-    c.turns_before.ensures
-    ∙ ap₂ (λ a b. cond (eqb a b) (ltb (reverse_bits_onto 64 i 0) (reverse_bits_onto 64 p 0)) (ltb a b)) size c.loop-i.invariant.1
-    ∙ ap (λ r. cond (eqb (z i) (z p)) r (ltb (z i) (z p))) (reversed_order 64 e i p (omega (arith, long)) (omega (arith, long)) (omega (arith, fits)) (omega (arith, fits))) in
+    c.turns_before.ensures e (omega (arith, long)) (omega (arith, long))
+    ∙ ap₂ (λ a b. cond (eqb a b) (ltb (reversed e i) (reversed e p)) (ltb a b)) size c.loop-i.invariant.1 in
     elim c.if-turns_before.branch [
       | then-turns_before w ↦ (
         λ e long. subst (λ k. Turns e z (i + 1) k) (sym w.place-is) (turns_moves e z i p (c.loop-i.invariant.0 e long) (sym (told e long) ∙ w.if-turns_before.true)),
