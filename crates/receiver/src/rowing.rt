@@ -53,15 +53,16 @@ impl<'a, S: Soft + Copy> OpenSpan<'a, S> {
         );
     }
 
-    // The row of its left half, after its own. A single position has no half.
+    // The row of its left half, after its own. A single position has no half, and where no step more can be pending nothing is written.
     // Kept beside `xor_halves`: one writes values, the other bits, by functions of other types.
     // Kept with a test, here and below: a type for spans that have halves proves, but the check covers no Option of one, so it would be built behind a test at each use.
     pub(crate) fn check_halves(&mut self)
-        ensures soft { self.old.spot.e ≢ 0 → self.new.soft.now ≡ with_left S.Soft.kind (base self.old.spot.n self.old.spot.e) (2 ^ (self.old.spot.e - 1)) self.old.soft.now }
+        ensures soft { self.old.spot.e ≢ 0 → self.old.spot.below + 1 < 64 → self.new.soft.now ≡ with_left S.Soft.kind (base self.old.spot.n self.old.spot.e) (2 ^ (self.old.spot.e - 1)) self.old.soft.now }
+        ensures full { 64 ≤ self.old.spot.below + 1 → self.new.soft.now ≡ self.old.soft.now }
         ensures rest { (self.new.spot ≡ self.old.spot) × (self.new.pending.now ≡ self.old.pending.now) × (self.new.bits.now ≡ self.old.bits.now) }
         ensures lent { SameLoans (memory_of self.old) (memory_of self.new) }
     {
-        if self.spot.e == 0 {
+        if self.spot.e == 0 || self.spot.below >= 63 {
             return;
         }
         let base = self.spot.base();
@@ -70,13 +71,14 @@ impl<'a, S: Soft + Copy> OpenSpan<'a, S> {
         let _ = check_row(&mut soft[base..end]);
     }
 
-    // The row of its right half, after its own, with the bits of its left half.
+    // The row of its right half, after its own, with the bits of its left half. Nothing is written where no step more can be pending.
     pub(crate) fn join_halves(&mut self)
-        ensures soft { self.old.spot.e ≢ 0 → self.new.soft.now ≡ with_right S.Soft.kind (base self.old.spot.n self.old.spot.e) (2 ^ (self.old.spot.e - 1)) self.old.soft.now self.old.bits.now self.old.spot.start }
+        ensures soft { self.old.spot.e ≢ 0 → self.old.spot.below + 1 < 64 → self.new.soft.now ≡ with_right S.Soft.kind (base self.old.spot.n self.old.spot.e) (2 ^ (self.old.spot.e - 1)) self.old.soft.now self.old.bits.now self.old.spot.start }
+        ensures full { 64 ≤ self.old.spot.below + 1 → self.new.soft.now ≡ self.old.soft.now }
         ensures rest { (self.new.spot ≡ self.old.spot) × (self.new.pending.now ≡ self.old.pending.now) × (self.new.bits.now ≡ self.old.bits.now) }
         ensures lent { SameLoans (memory_of self.old) (memory_of self.new) }
     {
-        if self.spot.e == 0 {
+        if self.spot.e == 0 || self.spot.below >= 63 {
             return;
         }
         let base = self.spot.base();

@@ -51,5 +51,5 @@ returns-in-None-clause-follows g c = λ root path is these top was.
     ∙ ap₂ (λ a b. with_half span.pending.now span.spot.below (record { next = next.Second; start = a; e = b }) (record { next = next.First; start = a; e = b - 1 })) hs he in
     coherent_as g.S.Soft.kind n root (stepped g.S.Soft.kind root caps (at first path)) (span.spot.below + 2) c.check_halves.new.self.soft.now c.give_way.new.self.pending.now span.bits.now (pushed.0 ∙ ap (λ s. s.below + 2) q) c.give_way.ensures.rest.0 refl (c.give_way.ensures.rest.1 ∙ c.check_halves.ensures.rest.2)
     (left_follows g.S.Soft.kind n root is path caps first span.spot.below span.soft.now span.pending.now span.bits.now was (subst (λ k. 2 ^ k ≤ length span.bits.now) c.requires span.word)
-    marks means these refl _ _ _ _ _ _ hs he (ap (λ k. base k span.spot.e) c.requires) refl (subst (λ k. 2 * 2 ^ k ≤ length span.soft.now) c.requires span.rows) (omega (arith, span.steps, few)) found (c.check_halves.ensures.soft some)
+    marks means these refl _ _ _ _ _ _ hs he (ap (λ k. base k span.spot.e) c.requires) refl (subst (λ k. 2 * 2 ^ k ≤ length span.soft.now) c.requires span.rows) (omega (arith, span.steps, few)) found (c.check_halves.ensures.soft some few)
     (pushed.1 ∙ steps))

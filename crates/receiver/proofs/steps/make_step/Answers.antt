@@ -54,7 +54,7 @@ returns-in-Second-clause-moves g c = λ root nxt path is these was.
     coherent_as kind n root (stepped kind root caps (at second path)) (spot.below + 2) joined.soft.now now.pending.now memory.bits.now (pushed.0 ∙ ap (λ s. s.below + 2) q) c.give_way.ensures.rest.0 refl (c.give_way.ensures.rest.1 ∙ c.join_halves.ensures.rest.2)
     (right_follows kind n root is path caps second spot.below memory.soft.now memory.pending.now memory.bits.now
     (coherent_as kind n root (at second path) c.args.height memory.soft.now memory.pending.now memory.bits.now (omega (arith, here.3, c.requires.some)) refl refl refl opened) c.requires.room.bit_room
-    refl _ _ _ _ _ _ hs he (ap (λ k. base k spot.e) here.0) refl c.requires.room.soft_room (omega (arith, c.requires.room.step_room, few)) some (c.join_halves.ensures.soft some) (pushed.1 ∙ steps))) was)
+    refl _ _ _ _ _ _ hs he (ap (λ k. base k spot.e) here.0) refl c.requires.room.soft_room (omega (arith, c.requires.room.step_room, few)) some (c.join_halves.ensures.soft some few) (pushed.1 ∙ steps))) was)
 
 pub returns-in-Final-clause-moves : goal.returns-in-Final-clause-moves
 returns-in-Final-clause-moves g c = λ root nxt path is these was.

@@ -4,7 +4,7 @@ use Rattle.receiver.proofs.Halves.{three_halves, left_written}
 use Rattle.receiver.proofs.open_span.OpenSpan.check_halves.Goals as goal
 
 pub returns-clause-soft : goal.returns-clause-soft
-returns-clause-soft g c = λ some.
+returns-clause-soft g c = λ some few.
     let kind = g.S.Soft.kind in
     let soft = c.args.self.now.soft.now in
     let b = c.base-base.result in
